@@ -1,0 +1,2 @@
+pub mod CheckBytes
+pub mod Hears

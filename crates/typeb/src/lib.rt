@@ -1,0 +1,4 @@
+// Type B frames: check bytes, soundness, and what a tag can hear in a frame.
+pub mod crc;
+pub mod frames;
+pub mod reading;
