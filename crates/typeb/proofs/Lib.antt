@@ -1,3 +1,4 @@
 pub mod Fold
 pub mod Parts
 pub mod Bodies
+pub mod Residue

@@ -7,10 +7,10 @@ ghost use Rattle.std.specs.Results.{isOk};
 ghost use Rattle.std.specs.shelf.Text.{sameBytes};
 ghost use mathlib.Core.Bool.{cond};
 ghost use Prim.Native.Nat.{_<_};
-
 use std::alloc::AllocError;
 
 const START: u16 = 0xFFFF;
+
 const POLYNOMIAL: u16 = 0x8408;
 
 // One data bit, 0 or 1, enters the register.
@@ -18,7 +18,11 @@ fn fold_bit(reg: u16, bit: u8) -> u16
     ensures { λ r. ⌜ r ≡ foldBit reg bit ⌝ }
 {
     let half = reg / 2;
-    if reg % 2 == u16::from(bit) { half } else { half ^ POLYNOMIAL }
+    if reg % 2 == u16::from(bit) {
+        half
+    } else {
+        half ^ POLYNOMIAL
+    }
 }
 
 // The eight bits of a byte enter the register, lowest first.
@@ -60,8 +64,8 @@ fn same_pair(a: [u8; 2], b: [u8; 2]) -> bool
     a == b
 }
 
-// A frame is sound when it has three bytes or more and its last two are the check bytes of the rest.
-pub fn is_sound(frame: &[u8]) -> bool
+// The last two bytes of a frame of three bytes or more are the check bytes of the rest.
+fn ends_in_check_bytes(frame: &[u8]) -> bool
     ensures { λ r. ⌜ r ≡ sound (now (frame .entry)) ⌝ }
 {
     match frame {
@@ -70,9 +74,20 @@ pub fn is_sound(frame: &[u8]) -> bool
     }
 }
 
+// A frame is sound when it has three bytes or more and its last two are the check bytes of the rest.
+// Of such a frame the register, run over all of its bytes, ends at 0xF0B8, and of no other: clause `residue`.
+pub fn is_sound(frame: &[u8]) -> bool
+    ensures result { λ r. ⌜ r ≡ sound (now (frame .entry)) ⌝ }
+    ensures residue { λ r. ⌜ EndsAtResidue (now (frame .entry)) r ⌝ }
+{
+    ends_in_check_bytes(frame)
+}
+
 // Appends its check bytes to a body. Where there is no memory for them the body stays as it was.
+// A body of one byte or more becomes a sound frame: clause `sound_after`.
 pub fn seal(frame: &mut Vec<u8>) -> Result<(), AllocError>
-    ensures { λ r. ⌜ vec-items (now (frame .exit)) ≡ cond (isOk r) (sealed (vec-items (now (frame .entry)))) (vec-items (now (frame .entry))) ⌝ }
+    ensures result { λ r. ⌜ vec-items (now (frame .exit)) ≡ cond (isOk r) (sealed (vec-items (now (frame .entry)))) (vec-items (now (frame .entry))) ⌝ }
+    ensures sound_after { λ _. ⌜ SealedIsSound (vec-items (now (frame .entry))) ⌝ }
 {
     let check = check_bytes(frame.as_slice());
     frame.extend_from_slice(&check)

@@ -81,7 +81,9 @@ pub enum Frame<'a> {
         slots: Slots,
     },
     // SlotMARKER, for slots 2 to 16.
-    SlotMarker { slot: u8 },
+    SlotMarker {
+        slot: u8,
+    },
     // ATTRIB: selects the tag with this serial number.
     Attrib {
         serial: Serial,
@@ -89,7 +91,9 @@ pub enum Frame<'a> {
         inf: &'a [u8],
     },
     // HLTB: sends the tag with this serial number to sleep.
-    Halt { serial: Serial },
+    Halt {
+        serial: Serial,
+    },
     // A data command for the tag with this card number, the CID.
     Command {
         op: Op,

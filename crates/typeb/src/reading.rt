@@ -2,7 +2,6 @@
 ghost use mathlib.Core.Path.{_≡_};
 ghost use Prim.Native.Nat.{_/_, _%_};
 ghost use Rattle.typeb.specs.Hears.{slotsOf, opOf, inBody, heard, readingOf};
-
 use crate::crc::is_sound;
 use crate::frames::Frame;
 use crate::frames::Op;
@@ -45,19 +44,32 @@ fn read_body(body: &[u8]) -> Option<Frame<'_>>
         [0x05, family, param] => {
             let slots = slots_of(*param % 8)?;
             let wake_up = *param / 8 % 2 == 1;
-            Some(Frame::Request { family: *family, wake_up, slots })
+            Some(Frame::Request {
+                family: *family,
+                wake_up,
+                slots,
+            })
         }
-        [marker] if *marker % 16 == 5 && *marker / 16 > 0 => Some(Frame::SlotMarker { slot: *marker / 16 + 1 }),
+        [marker] if *marker % 16 == 5 && *marker / 16 > 0 => Some(Frame::SlotMarker {
+            slot: *marker / 16 + 1,
+        }),
         [0x1D, s0, s1, s2, s3, p1, p2, p3, p4, inf @ ..] if inf.len() <= 5 => Some(Frame::Attrib {
             serial: [*s0, *s1, *s2, *s3],
             params: [*p1, *p2, *p3, *p4],
             inf,
         }),
-        [0x50, s0, s1, s2, s3] => Some(Frame::Halt { serial: [*s0, *s1, *s2, *s3] }),
+        [0x50, s0, s1, s2, s3] => Some(Frame::Halt {
+            serial: [*s0, *s1, *s2, *s3],
+        }),
         [head, address, rest @ ..] if rest.len() == 8 => {
             let bytes = rest.first_chunk::<8>()?;
             let op = op_of(*head / 16)?;
-            Some(Frame::Command { op, cid: *head % 16, address: *address, bytes })
+            Some(Frame::Command {
+                op,
+                cid: *head % 16,
+                address: *address,
+                bytes,
+            })
         }
         _ => None,
     }
