@@ -4,9 +4,9 @@ ghost use Rattle.typeb.specs.CheckBytes.{foldBit, foldByte, register, checkByt
 ghost use Rattle.typeb.specs.CheckBytes.{EndsAtResidue, SealedIsSound};
 ghost use Rattle.std.specs.Of.Vec.{vec-items};
 ghost use Rattle.std.specs.Results.{isOk};
-ghost use Rattle.std.specs.shelf.Text.{sameBytes};
 ghost use mathlib.Core.Bool.{cond};
 ghost use Prim.Native.Nat.{_<_};
+use crate::bytes::same_bytes;
 use std::alloc::AllocError;
 
 const START: u16 = 0xFFFF;
@@ -57,19 +57,12 @@ pub fn check_bytes(body: &[u8]) -> [u8; 2]
     [(check % 256) as u8, (check / 256) as u8]
 }
 
-// Two pairs of check bytes are equal.
-fn same_pair(a: [u8; 2], b: [u8; 2]) -> bool
-    ensures { λ r. ⌜ r ≡ sameBytes a b ⌝ }
-{
-    a == b
-}
-
 // The last two bytes of a frame of three bytes or more are the check bytes of the rest.
 fn ends_in_check_bytes(frame: &[u8]) -> bool
     ensures { λ r. ⌜ r ≡ sound (now (frame .entry)) ⌝ }
 {
     match frame {
-        [body @ .., low, high] if !body.is_empty() => same_pair([*low, *high], check_bytes(body)),
+        [body @ .., low, high] if !body.is_empty() => same_bytes(&[*low, *high], &check_bytes(body)),
         _ => false,
     }
 }

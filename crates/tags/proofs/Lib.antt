@@ -1,0 +1,7 @@
+pub mod Buffers
+pub mod Lists
+pub mod Memory
+pub mod Shown
+pub mod Twinned
+pub mod Alike
+pub mod Guarded

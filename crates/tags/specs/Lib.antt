@@ -1,0 +1,10 @@
+pub mod Kinds
+pub mod Says
+pub mod Links
+pub mod Reacts
+pub mod Pages
+pub mod Common
+pub mod Rules
+pub mod Pump
+pub mod Gauge
+pub mod Making
