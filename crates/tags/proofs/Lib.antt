@@ -1,4 +1,3 @@
-pub mod Buffers
 pub mod Lists
 pub mod Memory
 pub mod Shown

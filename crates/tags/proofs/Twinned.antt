@@ -16,7 +16,7 @@ use Rattle.tags.specs.declared.link.State.the-variants.{Off, Idle, Requested, 
 use Rattle.tags.specs.Kinds.{Meaning, Hears, Alike, Twins}
 use Rattle.tags.specs.Links.{LinkHears, isOff, isDeclared, isActive, answersTo, listens, linkHears, hearsRequest, hearsMarker, hearsAttrib, hearsHalt}
 use Rattle.tags.specs.Links as links
-use Rattle.tags.specs.Says.{Says, Answer, replyBytes}
+use Rattle.tags.specs.Says.{Answer, protocolInfo, replyBytes}
 use Rattle.tags.specs.Reacts.{Reaction, unmoved, answered, hearsBy}
 
 module _ {S H : Type 0} where
@@ -75,7 +75,7 @@ off-state Active h = absurd (false≢true h)
 
 pub off-link : (serial application : List ℕ) (frame : Heard) (link : Link) → isOff (link .state) ≡ true → linkHears serial application frame link ≡ links.unmoved link
 off-link serial application (Request family wakeUp slots) link h = cond-false (listens (link .state) wakeUp) _ _ (ap (λ (s : State). listens s wakeUp) (off-state (link .state) h))
-off-link serial application (SlotMarker slot) link h = ap (hearsMarker (Answer serial application) slot link) (off-state (link .state) h)
+off-link serial application (SlotMarker slot) link h = ap (hearsMarker (Answer serial application protocolInfo) slot link) (off-state (link .state) h)
 off-link serial application (Attrib named params inf) link h = cond-false (isDeclared (link .state) && sameBytes named serial) _ _ (ap (λ (s : State). isDeclared s && sameBytes named serial) (off-state (link .state) h))
 off-link serial application (Halt named) link h = cond-false (isDeclared (link .state) && sameBytes named serial) _ _ (ap (λ (s : State). isDeclared s && sameBytes named serial) (off-state (link .state) h))
 off-link serial application (Command op cid address bytes) link h = refl

@@ -2,7 +2,9 @@
 use Prim.Native.Nat.{ℕ}
 use mathlib.Core.Bool.{false, cond}
 use mathlib.Core.List.{List}
+use mathlib.Core.Path.{_≡_}
 use lib.Dec.{ltb}
+use lib.ListN.{length}
 use Rattle.typeb.specs.declared.frames.Op.{Op}
 use Rattle.typeb.specs.declared.frames.Op.the-variants.{Read, Write, Lock, CheckPassword, Deselect, Count}
 use Rattle.tags.specs.declared.gauge.GaugeTag.{GaugeTag}
@@ -19,6 +21,10 @@ GaugeMeaning = Meaning Shown (Unit {0})
 -- It is never open.
 abbrev pub gaugeMeans : GaugeTag → GaugeMeaning
 gaugeMeans tag = record { shown = record { link = tag .link; pages = tag .memory }; hidden = tt; opened = false }
+
+-- A gauge has 16 bytes in its two pages.
+abbrev pub GaugeSized : GaugeMeaning → Type 0
+GaugeSized m = length (m .shown .pages) ≡ 16
 
 -- READ of another page than 0 and 1 is refused.
 abbrev pub gaugeReads : ℕ → GaugeMeaning → Reaction GaugeMeaning

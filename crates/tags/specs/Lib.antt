@@ -8,3 +8,4 @@ pub mod Rules
 pub mod Pump
 pub mod Gauge
 pub mod Making
+pub mod Edges

@@ -12,7 +12,7 @@ use Rattle.typeb.specs.Hears.{Heard, Request, SlotMarker, Attrib, Halt, Command
 use Rattle.tags.specs.declared.link.State.{State}
 use Rattle.tags.specs.declared.link.State.the-variants.{Off, Idle, Requested, Declared, Halted, Active}
 use Rattle.tags.specs.declared.link.Link.{Link}
-use Rattle.tags.specs.Says.{Says, Answer, Card, Acknowledged}
+use Rattle.tags.specs.Says.{Says, Answer, Card, Acknowledged, protocolInfo}
 
 -- A tag just made is off; its card number is 0.
 abbrev pub newLink : ℕ → Link
@@ -130,8 +130,8 @@ hearsHalt own link = cond (isDeclared (link .state) && own) (moved link Halted (
 
 -- What both kinds do alike, for a tag with this serial number and application data. Data commands are each kind's own.
 abbrev pub linkHears : List ℕ → List ℕ → Heard → Link → LinkHears
-linkHears serial application (Request family wakeUp slots) link = hearsRequest (Answer serial application) family wakeUp slots link
-linkHears serial application (SlotMarker slot) link = hearsMarker (Answer serial application) slot link (link .state)
+linkHears serial application (Request family wakeUp slots) link = hearsRequest (Answer serial application protocolInfo) family wakeUp slots link
+linkHears serial application (SlotMarker slot) link = hearsMarker (Answer serial application protocolInfo) slot link (link .state)
 linkHears serial application (Attrib named params inf) link = hearsAttrib (sameBytes named serial) params link
 linkHears serial application (Halt named) link = hearsHalt (sameBytes named serial) link
 linkHears serial application (Command op cid address bytes) link = unmoved link

@@ -1,9 +1,10 @@
 -- The pump tag, AT88RF020: what it shows and hides, and what it does with every frame.
-use Prim.Native.Nat.{ℕ, _+_, _-_, _*_, _%_}
+use Prim.Native.Nat.{ℕ, _-_}
 use mathlib.Core.Bool.{Bool, true, false, cond, not, _&&_}
-use mathlib.Core.List.{List, [], _∷_, _++_}
-use lib.Dec.{eqb, ltb}
-use lib.ListN.{take, drop, getD, replicate}
+use mathlib.Core.List.{List}
+use mathlib.Core.Path.{_≡_}
+use lib.Dec.{ltb}
+use lib.ListN.{length, take, drop, replicate}
 use Rattle.std.specs.declared.option.Option.the-variants.{Some}
 use Rattle.std.specs.shelf.Text.{sameBytes}
 use Rattle.typeb.specs.declared.frames.Op.{Op}
@@ -28,6 +29,11 @@ pumpMeans tag =
       ; hidden = drop 24 (tag .memory)
       ; opened = tag .opened
       }
+
+-- A pump tag has 24 bytes in pages 0 to 2 and 232 in pages 3 to 31.
+pub record PumpSized (m : PumpMeaning) : Type 0 where
+  pub shown : length (m .shown .pages) ≡ 24
+  pub hidden : length (m .hidden) ≡ 232
 
 -- A page of the 32, read and replaced.
 abbrev pub pageOf : ℕ → PumpMeaning → List ℕ

@@ -44,3 +44,11 @@ module _ {S H : Type 0} where
 
   abbrev pub hearsBy : (Heard → Meaning S H → Reaction (Meaning S H)) → List ℕ → Meaning S H → Hears S H
   hearsBy reacts frame m = answered reacts m (heard frame)
+
+  -- What a tag says to a frame.
+  abbrev pub saysAt : (Heard → Meaning S H → Reaction (Meaning S H)) → Meaning S H → Option Heard → Option Says
+  saysAt reacts m (Some frame) = reacts frame m .says
+  saysAt reacts m None = None
+
+  abbrev pub saysTo : (Heard → Meaning S H → Reaction (Meaning S H)) → List ℕ → Meaning S H → Option Says
+  saysTo reacts frame m = saysAt reacts m (heard frame)

@@ -12,8 +12,8 @@ use Rattle.tags.specs.declared.said.Said.the-variants as said
 
 -- What a tag can say.
 pub data Says : Type 0 where
-  -- ATQB, the answer to a request: serial number and application data
-  Answer : List ℕ → List ℕ → Says
+  -- ATQB, the answer to a request: serial number, application data, protocol info
+  Answer : List ℕ → List ℕ → List ℕ → Says
   -- the card number that it took from ATTRIB
   Card : ℕ → Says
   -- the page that was asked for
@@ -22,6 +22,10 @@ pub data Says : Type 0 where
   Acknowledged : Says
   -- not done (NACK), with the code that says why
   Refused : ℕ → Says
+
+-- The protocol info of both kinds: 106 kbit/s only, frames of 16 bytes, no further protocol, card numbers supported.
+abbrev pub protocolInfo : List ℕ
+protocolInfo = 0x00 ∷ 0x00 ∷ 0x41 ∷ []
 
 -- The code of each reason to refuse: the low nibble 1 marks the NACK.
 abbrev pub nackCode : Nack → ℕ
@@ -52,7 +56,7 @@ repeated None = []
 
 -- What is said, behind what is repeated, without check bytes.
 abbrev pub saidBody : List ℕ → ℕ → Says → List ℕ
-saidBody repeats page (Answer serial application) = 0x50 ∷ serial ++ application ++ (0x00 ∷ 0x00 ∷ 0x41 ∷ [])
+saidBody repeats page (Answer serial application protocol) = 0x50 ∷ serial ++ application ++ protocol
 saidBody repeats page (Card cid) = cid ∷ []
 saidBody repeats page (Page bytes) = repeats ++ (page ∷ bytes)
 saidBody repeats page Acknowledged = repeats ++ (0x00 ∷ [])
@@ -65,7 +69,7 @@ replyBytes frame None = []
 
 -- What a value of the code stands for.
 abbrev pub saysOf : Said → Says
-saysOf (said.Answer serial application) = Answer serial application
+saysOf (said.Answer serial application) = Answer serial application protocolInfo
 saysOf (said.Card cid) = Card cid
 saysOf (said.Page bytes) = Page bytes
 saysOf said.Acknowledged = Acknowledged

@@ -1,4 +1,5 @@
 // Tags: the interface of a kind with its duties, the pump tag and the gauge tag.
+pub mod edges;
 pub mod gauge;
 pub mod hearing;
 pub mod kind;

@@ -6,9 +6,9 @@ ghost use lib.ListN.{length, drop};
 ghost use Rattle.typeb.specs.CheckBytes.{sealed};
 ghost use Rattle.typeb.specs.Hears.{frameOf};
 ghost use Rattle.tags.specs.Kinds.{Placed};
-ghost use Rattle.tags.specs.Says.{Answer, Page, nackCode, repeated, echo, pageNamed, saidBody, replyBytes, saysOf, sayingOf};
+ghost use Rattle.tags.specs.Says.{Answer, Page, protocolInfo, nackCode, repeated, echo, pageNamed, saidBody, replyBytes, saysOf, sayingOf};
 
-use typeb::crc::check_bytes;
+use typeb::crc::seal_into;
 use typeb::frames::Frame;
 use typeb::frames::Serial;
 
@@ -72,17 +72,12 @@ fn put_sealed(body: &[u8], reply: &mut [u8; 16]) -> usize
     requires { ⌜ length (now body) ≤ 14 ⌝ }
     ensures { λ r. ⌜ Placed (sealed (now (body .entry))) (now (reply .entry)) (now (reply .exit)) r ⌝ }
 {
-    let n = body.len();
-    let [low, high] = check_bytes(body);
-    reply[0..n].copy_from_slice(body);
-    reply[n] = low;
-    reply[n + 1] = high;
-    n + 2
+    seal_into(body, reply).unwrap_or(0)
 }
 
 // ATQB for a serial number and application data.
 fn put_answer(s: Serial, a: [u8; 4], reply: &mut [u8; 16]) -> usize
-    ensures { λ r. ⌜ Placed (sealed (saidBody [] 0 (Answer s a))) (now (reply .entry)) (now (reply .exit)) r ⌝ }
+    ensures { λ r. ⌜ Placed (sealed (saidBody [] 0 (Answer s a protocolInfo))) (now (reply .entry)) (now (reply .exit)) r ⌝ }
 {
     put_sealed(&[0x50, s[0], s[1], s[2], s[3], a[0], a[1], a[2], a[3], 0x00, 0x00, 0x41], reply)
 }

@@ -2,3 +2,4 @@ pub mod Fold
 pub mod Parts
 pub mod Bodies
 pub mod Residue
+pub mod Buffers

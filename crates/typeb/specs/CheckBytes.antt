@@ -1,11 +1,13 @@
 -- The check bytes of a frame, CRC_B of ISO/IEC 14443-3: what they are, and when a frame is sound.
-use Prim.Native.Nat.{ℕ, zero, suc, _-_, _/_, _%_, _<_, _≤_}
+use Prim.Native.Nat.{ℕ, zero, suc, _+_, _-_, _/_, _%_, _<_, _≤_}
 use mathlib.Core.Bool.{Bool, true, _&&_, cond}
 use mathlib.Core.List.{List, [], _∷_, _++_}
 use mathlib.Core.Path.{_≡_}
 use lib.Bits.{bitXor}
 use lib.Dec.{eqb, leb}
 use lib.ListN.{length, take, drop, getD}
+use Rattle.std.specs.declared.option.Option.{Option}
+use Rattle.std.specs.declared.option.Option.the-variants.{Some, None}
 use Rattle.std.specs.Iters.{folded}
 use Rattle.std.specs.shelf.Text.{sameBytes}
 
@@ -35,6 +37,12 @@ checkBytes body = ((0xFFFF - register body) % 256) ∷ ((0xFFFF - register body)
 -- A body with its check bytes behind it.
 abbrev pub sealed : List ℕ → List ℕ
 sealed body = body ++ checkBytes body
+
+-- A body sealed at the front of a lent buffer: every other byte stays as it was, and the frame's length is answered.
+-- A buffer that is too short stays as it was.
+pub record SealedInto (body lent given : List ℕ) (len : Option ℕ) : Type 0 where
+  pub size : len ≡ cond (leb (length body + 2) (length lent)) (Some (length body + 2)) None
+  pub buffer : given ≡ cond (leb (length body + 2) (length lent)) (sealed body ++ drop (length body + 2) lent) lent
 
 -- A frame without its last two bytes, and those two.
 abbrev pub bodyOf : List ℕ → List ℕ

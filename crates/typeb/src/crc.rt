@@ -1,7 +1,7 @@
 // Check bytes (CRC_B) and soundness of frames.
 ghost use mathlib.Core.Path.{_≡_};
 ghost use Rattle.typeb.specs.CheckBytes.{foldBit, foldByte, register, checkBytes, sealed, sound};
-ghost use Rattle.typeb.specs.CheckBytes.{EndsAtResidue, SealedIsSound};
+ghost use Rattle.typeb.specs.CheckBytes.{EndsAtResidue, SealedIsSound, SealedInto};
 ghost use Rattle.std.specs.Of.Vec.{vec-items};
 ghost use Rattle.std.specs.Results.{isOk};
 ghost use mathlib.Core.Bool.{cond};
@@ -84,4 +84,19 @@ pub fn seal(frame: &mut Vec<u8>) -> Result<(), AllocError>
 {
     let check = check_bytes(frame.as_slice());
     frame.extend_from_slice(&check)
+}
+
+// Writes a body and its check bytes to the front of a buffer and answers the frame's length; none where it has no room.
+pub fn seal_into(body: &[u8], buffer: &mut [u8]) -> Option<usize>
+    ensures { λ r. ⌜ SealedInto (now (body .entry)) (now (buffer .entry)) (now (buffer .exit)) r ⌝ }
+{
+    let n = body.len();
+    if buffer.len() < 2 || n > buffer.len() - 2 {
+        return None;
+    }
+    let [low, high] = check_bytes(body);
+    buffer[0..n].copy_from_slice(body);
+    buffer[n] = low;
+    buffer[n + 1] = high;
+    Some(n + 2)
 }

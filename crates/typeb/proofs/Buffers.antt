@@ -7,8 +7,7 @@ use mathlib.Core.Path.{_≡_, refl, sym, ap, _∙_}
 use borrow.Rule.Slice.PartMut.{postOf}
 use lib.ListN.{length, drop, set, getD}
 use Rattle.std.proofs.shelf.Lists.{drop-drop, length-append, length-drop, set-append-right}
 use Rattle.typeb.specs.CheckBytes.{checkBytes, sealed}
-use Rattle.tags.specs.Kinds.{Placed}
 
 -- the first two elements of a list that has them are replaced
 set-two : (xs : List ℕ) (a b : ℕ) → 2 ≤ length xs → set (set xs 0 a) 1 b ≡ a ∷ b ∷ drop 2 xs
@@ -33,18 +32,13 @@ placed body buf a b h =
     ∙ ap (λ (l : List ℕ). body ++ l) (three ∙ ap (λ (l : List ℕ). a ∷ b ∷ l) (drop-drop 2 n buf))
     ∙ sym (append-assoc body (a ∷ b ∷ []) (drop (n + 2) buf))
 
-length-sealed : (body : List ℕ) → length (sealed body) ≡ length body + 2
+pub length-sealed : (body : List ℕ) → length (sealed body) ≡ length body + 2
 unfolding checkBytes
 length-sealed body = length-append body (checkBytes body)
 
--- what a function that copies a body and then writes its two check bytes leaves and answers
-pub sealed-in-front : (body buf copy check : List ℕ) → length body + 2 ≤ length buf → copy ≡ body → check ≡ checkBytes body → length body ≤ 14
-    → Placed (sealed body) buf (set (set (copy ++ postOf 0 (length body - 0) buf) (length body) (getD check 0 0)) (length body + 1) (getD check 1 0)) (length body + 2)
+-- what a function that copies a body and then writes its two check bytes leaves
+pub sealed-in-front : (body buf copy check : List ℕ) → length body + 2 ≤ length buf → copy ≡ body → check ≡ checkBytes body
+    → set (set (copy ++ postOf 0 (length body - 0) buf) (length body) (getD check 0 0)) (length body + 1) (getD check 1 0) ≡ sealed body ++ drop (length body + 2) buf
 unfolding checkBytes
-sealed-in-front body buf copy check room same is short =
-    let size = length-sealed body in
-    record
-      { buffer = simp (same, is, sub-zero, size) (placed body buf (getD (checkBytes body) 0 0) (getD (checkBytes body) 1 0) room)
-      ; size = sym size
-      ; fits = omega arith
-      }
+sealed-in-front body buf copy check room same is =
+    simp (same, is, sub-zero) (placed body buf (getD (checkBytes body) 0 0) (getD (checkBytes body) 1 0) room)
