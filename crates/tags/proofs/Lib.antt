@@ -4,3 +4,4 @@ pub mod Shown
 pub mod Twinned
 pub mod Alike
 pub mod Guarded
+pub mod Spoken

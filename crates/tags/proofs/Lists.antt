@@ -9,9 +9,9 @@ use lib.ListN.{length, getD}
 use Rattle.std.specs.Options.{valueOr}
 use Rattle.std.specs.declared.option.Option.{Option}
 use Rattle.std.specs.declared.option.Option.the-variants.{Some}
-use Rattle.std.proofs.shelf.Lists.{length-append}
 use Rattle.std.proofs.shelf.Tests.{le-leb}
-use Rattle.typeb.specs.CheckBytes.{checkBytes, sealed, SealedInto}
+use Rattle.typeb.specs.CheckBytes.{sealed, SealedInto}
+use Rattle.typeb.proofs.Buffers.{length-sealed}
 use Rattle.tags.specs.Kinds.{Placed}
 use Rattle.std.specs.Iters.{counting}
 use Rattle.std.proofs.shelf.Counted.{fill-by-all}
@@ -19,10 +19,6 @@ use Rattle.std.proofs.shelf.Counted.{fill-by-all}
 -- a list of n elements is the list of its n elements
 pub listed : (xs : List ℕ) (n : ℕ) → length xs ≡ n → xs ≡ map (λ k. getD xs k 0) (counting 0 n)
 listed xs n e = fill-by-all (λ k. getD xs k 0) xs n 0 e (λ k h. refl)
-
-length-sealed : (body : List ℕ) → length (sealed body) ≡ length body + 2
-unfolding checkBytes
-length-sealed body = length-append body (checkBytes body)
 
 pub placed-by : (body lent given : List ℕ) (o : Option ℕ) (n : ℕ) → SealedInto body lent given o → n ≡ valueOr o 0 → 16 ≤ length lent → length body ≤ 14
     → Placed (sealed body) lent given n

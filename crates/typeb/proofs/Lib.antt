@@ -3,3 +3,4 @@ pub mod Parts
 pub mod Bodies
 pub mod Residue
 pub mod Buffers
+pub mod Sealed

@@ -1,0 +1,5 @@
+pub mod Lines
+pub mod Words
+pub mod Faults
+pub mod Report
+pub mod Options
