@@ -18,7 +18,7 @@ pub attrib-filled : (s inf copy : List ℕ) (cid : ℕ) → length s ≡ 4 → l
 attrib-filled s inf copy cid four short same =
     let n : 9 + length inf - 9 ≡ length inf = omega arith in
     let zeros : drop (9 + length inf - 9) (replicate 5 0) ≡ replicate (5 - length inf) 0 =
-      ap (λ (k : ℕ). drop k (replicate 5 0)) n ∙ drop-replicate (length inf) 5 0 in
+    ap (λ (k : ℕ). drop k (replicate 5 0)) n ∙ drop-replicate (length inf) 5 0 in
     ap (λ (l : List ℕ). literal s cid (l ++ drop (9 + length inf - 9) (replicate 5 0))) same
     ∙ ap (λ (l : List ℕ). literal s cid (inf ++ l)) zeros
     ∙ rw (listed s 4 four) refl

@@ -51,10 +51,10 @@ page-in head page reply body bytes out first second enough same =
     let rest = length-take (length body - 2) (drop 2 body) in
     let skipped = length-drop 2 body in
     let ten : length body ≡ 10 =
-      ⊎-elim
-      (λ (e : eqb (length reply) 12 ≡ true). let k = eqb-true _ _ e in omega arith)
-      (λ (e : eqb (length reply) 4 ≡ true). let k = eqb-true _ _ e in absurd (omega arith))
-      (or-cases (eqb (length reply) 12) (eqb (length reply) 4) (h .0)) in
+    ⊎-elim
+    (λ (e : eqb (length reply) 12 ≡ true). let k = eqb-true _ _ e in omega arith)
+    (λ (e : eqb (length reply) 4 ≡ true). let k = eqb-true _ _ e in absurd (omega arith))
+    (or-cases (eqb (length reply) 12) (eqb (length reply) 4) (h .0)) in
     let t : eqb (length body) 10 ≡ true = eq-eqb _ _ ten in
     let a : eqb (getD body 0 0) head ≡ true = eq-eqb _ _ first in
     let b : eqb (getD body 1 0) page ≡ true = eq-eqb _ _ second in

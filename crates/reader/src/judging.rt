@@ -9,7 +9,6 @@ ghost use Rattle.tags.specs.Says.{Card, Acknowledged};
 ghost use Rattle.reader.specs.Commands.{askedOf, outcome};
 ghost use Rattle.reader.specs.Judged.{soundBody, then, judgedAnswer, judgedByte, judgedStatus, judgedData, judgedPage, judged, judgement, bodyIn};
 ghost use Rattle.reader.specs.Laws.{JudgesExactly};
-
 use crate::commands::Command;
 use crate::replies::Reply;
 use refusals::Refusal;
@@ -89,10 +88,11 @@ fn judge_page(head: u8, page: u8, reply: &[u8]) -> Result<Reply<'_>, Refusal>
 {
     match sound_body((reply.len() == 12) | (reply.len() == 4), reply)? {
         [first, status] if *first == head => judge_status(false, true, *status),
-        [first, number, bytes @ ..] if *first == head && *number == page => match bytes.first_chunk::<8>() {
-            Some(bytes) => Ok(Reply::Page(bytes)),
-            None => Err(Refusal::ReplyUnexpected),
-        },
+        [first, number, bytes @ ..] if *first == head && *number == page =>
+            match bytes.first_chunk::<8>() {
+                Some(bytes) => Ok(Reply::Page(bytes)),
+                None => Err(Refusal::ReplyUnexpected),
+            },
         _ => Err(Refusal::ReplyUnexpected),
     }
 }

@@ -10,7 +10,6 @@ ghost use Rattle.tags.specs.Kinds.{Placed};
 ghost use Rattle.reader.specs.Commands.{Attrib, Halt, Lock, Count};
 ghost use Rattle.reader.specs.Commands.{askedOf, isSlots, inRange, slotCode, bodyFor, frameFor, madeFor, bufferFor, outcome};
 ghost use Rattle.reader.specs.Laws.{ReadsBack};
-
 use crate::commands::Command;
 use refusals::Refusal;
 use typeb::crc::seal_into;
@@ -91,7 +90,21 @@ fn put_data(op: Op, cid: u8, address: u8, b: [u8; 8], buffer: &mut [u8]) -> usiz
     requires { ⌜ 16 ≤ length (now buffer) ⌝ }
     ensures { λ r. ⌜ Placed (sealed (headOf op cid ∷ address ∷ b)) (now (buffer .entry)) (now (buffer .exit)) r ⌝ }
 {
-    put(&[op.head(cid), address, b[0], b[1], b[2], b[3], b[4], b[5], b[6], b[7]], buffer)
+    put(
+        &[
+            op.head(cid),
+            address,
+            b[0],
+            b[1],
+            b[2],
+            b[3],
+            b[4],
+            b[5],
+            b[6],
+            b[7],
+        ],
+        buffer,
+    )
 }
 
 // LOCK names its lock bits in the last four data bytes.
@@ -99,7 +112,13 @@ fn put_lock(cid: u8, l: [u8; 4], buffer: &mut [u8]) -> usize
     requires { ⌜ 16 ≤ length (now buffer) ⌝ }
     ensures { λ r. ⌜ Placed (frameFor (Lock cid l)) (now (buffer .entry)) (now (buffer .exit)) r ⌝ }
 {
-    put_data(Op::Lock, cid, 0, [0, 0, 0, 0, l[0], l[1], l[2], l[3]], buffer)
+    put_data(
+        Op::Lock,
+        cid,
+        0,
+        [0, 0, 0, 0, l[0], l[1], l[2], l[3]],
+        buffer,
+    )
 }
 
 // COUNT carries its signature in the first six data bytes.
@@ -107,7 +126,13 @@ fn put_count(cid: u8, s: [u8; 6], buffer: &mut [u8]) -> usize
     requires { ⌜ 16 ≤ length (now buffer) ⌝ }
     ensures { λ r. ⌜ Placed (frameFor (Count cid s)) (now (buffer .entry)) (now (buffer .exit)) r ⌝ }
 {
-    put_data(Op::Count, cid, 0, [s[0], s[1], s[2], s[3], s[4], s[5], 0, 0], buffer)
+    put_data(
+        Op::Count,
+        cid,
+        0,
+        [s[0], s[1], s[2], s[3], s[4], s[5], 0, 0],
+        buffer,
+    )
 }
 
 fn put_command(command: Command<'_>, buffer: &mut [u8]) -> usize
@@ -115,7 +140,11 @@ fn put_command(command: Command<'_>, buffer: &mut [u8]) -> usize
     ensures { λ r. ⌜ Placed (frameFor (askedOf (command .entry))) (now (buffer .entry)) (now (buffer .exit)) r ⌝ }
 {
     match command {
-        Command::Request { wake_up, family, slots } => {
+        Command::Request {
+            wake_up,
+            family,
+            slots,
+        } => {
             let wake = if wake_up { 8 } else { 0 };
             put(&[0x05, family, slot_code(slots) + wake], buffer)
         }
@@ -125,7 +154,13 @@ fn put_command(command: Command<'_>, buffer: &mut [u8]) -> usize
         Command::Read { cid, page } => put_data(Op::Read, cid, page, [0; 8], buffer),
         Command::Write { cid, page, bytes } => put_data(Op::Write, cid, page, bytes, buffer),
         Command::Lock { cid, locks } => put_lock(cid, locks, buffer),
-        Command::CheckPassword { cid, password } => put_data(Op::CheckPassword, cid, 0, password, buffer),
+        Command::CheckPassword { cid, password } => put_data(
+            Op::CheckPassword,
+            cid,
+            0,
+            password,
+            buffer,
+        ),
         Command::Deselect { cid } => put_data(Op::Deselect, cid, 0, [0; 8], buffer),
         Command::Count { cid, signature } => put_count(cid, signature, buffer),
     }

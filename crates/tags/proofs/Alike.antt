@@ -47,9 +47,9 @@ module _ {H : Type 0} where
 
     pub duties-by : ((op : Op) (page : ℕ) (bytes : List ℕ) → Blind (obeys op page bytes)) → Duties isOffTag (actsBy obeys)
     duties-by blind =
-        record
-          { losing = λ m n alike. record { alike = ap (λ (s : Shown). record { link = losesLink (s .link); pages = s .pages }) alike; left = refl; right = refl }
-          ; gaining = of-twins (λ m n. Twins (actsBy obeys .gains m) (actsBy obeys .gains n)) (λ s h k. twins _ h k)
-          ; hearing = hearing-by (reactsBy obeys) (reacts blind)
-          ; silent = λ frame m off. silent-by (reactsBy obeys) m (still m off) (heard frame)
-          }
+        record {
+          losing = λ m n alike. record { alike = ap (λ (s : Shown). record { link = losesLink (s .link); pages = s .pages }) alike; left = refl; right = refl };
+          gaining = of-twins (λ m n. Twins (actsBy obeys .gains m) (actsBy obeys .gains n)) (λ s h k. twins _ h k);
+          hearing = hearing-by (reactsBy obeys) (reacts blind);
+          silent = λ frame m off. silent-by (reactsBy obeys) m (still m off) (heard frame);
+        }

@@ -27,10 +27,10 @@ reads page s h k a b =
     ⊎-elim
     (λ (t : ltb page 3 ≡ true). simp t (record { says = refl; after = twins s h k }))
     (λ (t : ltb page 3 ≡ false).
-      ⊎-elim
-      (λ (e : eqb page 3 ≡ true). simp (t, e) (record { says = refl; after = twins s h k }))
-      (λ (e : eqb page 3 ≡ false). simp (t, e) (record { says = refl; after = twins s h k }))
-      (cases-bool (eqb page 3)))
+    ⊎-elim
+    (λ (e : eqb page 3 ≡ true). simp (t, e) (record { says = refl; after = twins s h k }))
+    (λ (e : eqb page 3 ≡ false). simp (t, e) (record { says = refl; after = twins s h k }))
+    (cases-bool (eqb page 3)))
     (cases-bool (ltb page 3))
 
 -- a check that is not accepted is refused and leaves the tag closed

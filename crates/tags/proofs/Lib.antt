@@ -5,3 +5,6 @@ pub mod Twinned
 pub mod Alike
 pub mod Guarded
 pub mod Spoken
+pub mod Replaced
+pub mod Locks
+pub mod Moves

@@ -27,8 +27,8 @@ placed-by body lent given o n into is room short =
     let long = length-sealed body in
     let some : o ≡ Some (length body + 2) = into .size ∙ simp fits refl in
     let count : n ≡ length body + 2 = is ∙ ap (λ (x : Option ℕ). valueOr x 0) some in
-    record
-      { buffer = into .buffer ∙ simp (fits, long) refl
-      ; size = count ∙ sym long
-      ; fits = omega arith
-      }
+    record {
+      buffer = into .buffer ∙ simp (fits, long) refl;
+      size = count ∙ sym long;
+      fits = omega arith;
+    }

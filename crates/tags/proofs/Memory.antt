@@ -18,7 +18,7 @@ pub put-copied : (n : ℕ) (memory copy page : List ℕ) → copy ≡ page → p
 put-copied n memory copy page same =
     ap (λ (l : List ℕ). take (8 * n) memory ++ (l ++ drop (8 * n + 8 - 8 * n) (drop (8 * n) memory))) same
     ∙ ap (λ (l : List ℕ). take (8 * n) memory ++ (page ++ l))
-      (drop-drop (8 * n + 8 - 8 * n) (8 * n) memory ∙ ap (λ (k : ℕ). drop k memory) (omega arith))
+    (drop-drop (8 * n + 8 - 8 * n) (8 * n) memory ∙ ap (λ (k : ℕ). drop k memory) (omega arith))
 
 module _ (n : ℕ) (f h : List ℕ) where
   -- a page of the front part
@@ -41,10 +41,10 @@ module _ (n : ℕ) (f h : List ℕ) where
     pub put-back : (page : List ℕ) → putPage n page (f ++ h) ≡ f ++ putPage k page h
     put-back page =
         let a : take (8 * n) (f ++ h) ≡ f ++ take (8 * k) h =
-          ap (λ (i : ℕ). take i (f ++ h)) place ∙ take-append-add f h (8 * k) in
+        ap (λ (i : ℕ). take i (f ++ h)) place ∙ take-append-add f h (8 * k) in
         let e : 8 * n + 8 ≡ length f + (8 * k + 8) = omega arith in
         let b : drop (8 * n + 8) (f ++ h) ≡ drop (8 * k + 8) h =
-          ap (λ (i : ℕ). drop i (f ++ h)) e ∙ drop-append-add f h (8 * k + 8) in
+        ap (λ (i : ℕ). drop i (f ++ h)) e ∙ drop-append-add f h (8 * k + 8) in
         simp (a, b, append-assoc) refl
 
 -- a page replaces a page: the length stays

@@ -30,9 +30,9 @@ module _ (n : ℕ) (memory : List ℕ) (whole : length memory ≡ 256) (below : 
       let fit = long in
       ap (pageAt n) parts
       ∙ ⊎-elim
-        (λ (l : n < 3). let t : ltb n 3 ≡ true = lt-ltb n 3 l in simp t (page-front n (take 24 memory) (drop 24 memory) (omega arith)))
-        (λ (g : 3 ≤ n). let t : ltb n 3 ≡ false = le-ltb n 3 g in simp t (page-back n (take 24 memory) (drop 24 memory) (n - 3) (omega arith)))
-        (cases-lt n 3)
+      (λ (l : n < 3). let t : ltb n 3 ≡ true = lt-ltb n 3 l in simp t (page-front n (take 24 memory) (drop 24 memory) (omega arith)))
+      (λ (g : 3 ≤ n). let t : ltb n 3 ≡ false = le-ltb n 3 g in simp t (page-back n (take 24 memory) (drop 24 memory) (n - 3) (omega arith)))
+      (cases-lt n 3)
 
   module _ (page : List ℕ) (eight : length page ≡ 8) where
     pub put-shown : take 24 (putPage n page memory) ≡ cond (ltb n 3) (putPage n page (take 24 memory)) (take 24 memory)
@@ -40,23 +40,23 @@ module _ (n : ℕ) (memory : List ℕ) (whole : length memory ≡ 256) (below : 
         let fit = long in
         ap (λ (m : List ℕ). take 24 (putPage n page m)) parts
         ∙ ⊎-elim
-          (λ (l : n < 3). let t : ltb n 3 ≡ true = lt-ltb n 3 l in
-            simp t (ap (take 24) (put-front n (take 24 memory) (drop 24 memory) page (omega arith))
-            ∙ take-at (putPage n page (take 24 memory)) (drop 24 memory) 24 (length-put n page (take 24 memory) eight (omega arith) ∙ fit)))
-          (λ (g : 3 ≤ n). let t : ltb n 3 ≡ false = le-ltb n 3 g in
-            simp t (ap (take 24) (put-back n (take 24 memory) (drop 24 memory) (n - 3) (omega arith) page)
-            ∙ take-at (take 24 memory) (putPage (n - 3) page (drop 24 memory)) 24 fit))
-          (cases-lt n 3)
+        (λ (l : n < 3). let t : ltb n 3 ≡ true = lt-ltb n 3 l in
+        simp t (ap (take 24) (put-front n (take 24 memory) (drop 24 memory) page (omega arith))
+        ∙ take-at (putPage n page (take 24 memory)) (drop 24 memory) 24 (length-put n page (take 24 memory) eight (omega arith) ∙ fit)))
+        (λ (g : 3 ≤ n). let t : ltb n 3 ≡ false = le-ltb n 3 g in
+        simp t (ap (take 24) (put-back n (take 24 memory) (drop 24 memory) (n - 3) (omega arith) page)
+        ∙ take-at (take 24 memory) (putPage (n - 3) page (drop 24 memory)) 24 fit))
+        (cases-lt n 3)
 
     pub put-hidden : drop 24 (putPage n page memory) ≡ cond (ltb n 3) (drop 24 memory) (putPage (n - 3) page (drop 24 memory))
     put-hidden =
         let fit = long in
         ap (λ (m : List ℕ). drop 24 (putPage n page m)) parts
         ∙ ⊎-elim
-          (λ (l : n < 3). let t : ltb n 3 ≡ true = lt-ltb n 3 l in
-            simp t (ap (drop 24) (put-front n (take 24 memory) (drop 24 memory) page (omega arith))
-            ∙ drop-at (putPage n page (take 24 memory)) (drop 24 memory) 24 (length-put n page (take 24 memory) eight (omega arith) ∙ fit)))
-          (λ (g : 3 ≤ n). let t : ltb n 3 ≡ false = le-ltb n 3 g in
-            simp t (ap (drop 24) (put-back n (take 24 memory) (drop 24 memory) (n - 3) (omega arith) page)
-            ∙ drop-at (take 24 memory) (putPage (n - 3) page (drop 24 memory)) 24 fit))
-          (cases-lt n 3)
+        (λ (l : n < 3). let t : ltb n 3 ≡ true = lt-ltb n 3 l in
+        simp t (ap (drop 24) (put-front n (take 24 memory) (drop 24 memory) page (omega arith))
+        ∙ drop-at (putPage n page (take 24 memory)) (drop 24 memory) 24 (length-put n page (take 24 memory) eight (omega arith) ∙ fit)))
+        (λ (g : 3 ≤ n). let t : ltb n 3 ≡ false = le-ltb n 3 g in
+        simp t (ap (drop 24) (put-back n (take 24 memory) (drop 24 memory) (n - 3) (omega arith) page)
+        ∙ drop-at (take 24 memory) (putPage (n - 3) page (drop 24 memory)) 24 fit))
+        (cases-lt n 3)

@@ -33,7 +33,7 @@ module _ {S H : Type 0} where
       let whole : (s : S) (o : Bool) (h : H) → Meaning S H = λ s o h. record { shown = s; hidden = h; opened = o } in
       let first : closed (m .shown) (m .hidden) ≡ m = ap (λ (o : Bool). whole (m .shown) o (m .hidden)) (sym (t .left)) in
       let second : closed (m .shown) (n .hidden) ≡ n =
-        ap (λ (s : S). whole s false (n .hidden)) (t .alike) ∙ ap (λ (o : Bool). whole (n .shown) o (n .hidden)) (sym (t .right)) in
+      ap (λ (s : S). whole s false (n .hidden)) (t .alike) ∙ ap (λ (o : Bool). whole (n .shown) o (n .hidden)) (sym (t .right)) in
       subst (λ (x : Meaning S H). P x n) first
       (subst (λ (y : Meaning S H). P (closed (m .shown) (m .hidden)) y) second (base (m .shown) (m .hidden) (n .hidden)))
 
@@ -55,7 +55,7 @@ module _ {S H : Type 0} where
       hearing-by frame =
           of-twins
           (λ (m n : Meaning S H). hearsBy reacts frame m .accepted ≡ false → hearsBy reacts frame n .accepted ≡ false
-            → (hearsBy reacts frame m .reply ≡ hearsBy reacts frame n .reply) × Twins (hearsBy reacts frame m .after) (hearsBy reacts frame n .after))
+          → (hearsBy reacts frame m .reply ≡ hearsBy reacts frame n .reply) × Twins (hearsBy reacts frame m .after) (hearsBy reacts frame n .after))
           (λ s h k. answers s h k (heard frame))
 
     -- a tag that no frame moves answers nothing and stays

@@ -52,8 +52,8 @@ module _ {H : Type 0} where
   -- Losing power closes a tag.
   abbrev pub actsBy : (Op → ℕ → List ℕ → Meaning Shown H → Reaction (Meaning Shown H)) → Behaviour Shown H
   actsBy obeys =
-      record
-        { gains = λ m. withLink (gainsLink (m .shown .link)) m
-        ; loses = λ m. withOpened false (withLink (losesLink (m .shown .link)) m)
-        ; hears = hearsBy (reactsBy obeys)
-        }
+      record {
+        gains = λ m. withLink (gainsLink (m .shown .link)) m;
+        loses = λ m. withOpened false (withLink (losesLink (m .shown .link)) m);
+        hears = hearsBy (reactsBy obeys);
+      }

@@ -18,11 +18,11 @@ pub record Edge : Type 0 where
 -- A pump tag in a state, with card number 0 and draw number 0: its shown pages 0 to 2, its hidden pages 3 to 31.
 abbrev pub tagIn : State → Bool → List ℕ → List ℕ → PumpMeaning
 tagIn state opened pages hidden =
-    record
-      { shown = record { link = record { state = state; cid = 0; draw = 0 }; pages = pages }
-      ; hidden = hidden
-      ; opened = opened
-      }
+    record {
+      shown = record { link = record { state = state; cid = 0; draw = 0 }; pages = pages };
+      hidden = hidden;
+      opened = opened;
+    }
 
 -- What a tag answers to a body with its check bytes, and the pages that it shows then.
 abbrev pub replyTo : PumpMeaning → List ℕ → List ℕ
@@ -64,19 +64,19 @@ edges =
     -- a request with slot code 5 meets silence
     ∷ record { found = replyTo (tagIn Idle false (replicate 24 0) (replicate 232 0)) (0x05 ∷ 0x00 ∷ 0x05 ∷ []); wanted = [] }
     -- COUNT at 0x7FFF is acknowledged and leaves 0x8000
-    ∷ record
-      { found = replyTo (countingTag 0xFF 0x7F) countBody ++ pagesAfter (countingTag 0xFF 0x7F) countBody
-      ; wanted = (0xE0 ∷ 0x00 ∷ 0xDE ∷ 0xE6 ∷ []) ++ countingPages 0x00 0x80
-      }
+    ∷ record {
+      found = replyTo (countingTag 0xFF 0x7F) countBody ++ pagesAfter (countingTag 0xFF 0x7F) countBody;
+      wanted = (0xE0 ∷ 0x00 ∷ 0xDE ∷ 0xE6 ∷ []) ++ countingPages 0x00 0x80;
+    }
     -- COUNT at 0x8000 is refused
     ∷ record { found = replyTo (countingTag 0x00 0x80) countBody; wanted = 0xE0 ∷ 0x21 ∷ 0x55 ∷ 0xD6 ∷ [] }
     -- LOCK naming page 0 only is acknowledged and leaves the memory as it was
-    ∷ record
-      { found =
+    ∷ record {
+      found =
           replyTo (countingTag 7 0) (0x20 ∷ 0 ∷ 9 ∷ 9 ∷ 9 ∷ 9 ∷ 1 ∷ 0 ∷ 0 ∷ 0 ∷ [])
-          ++ pagesAfter (countingTag 7 0) (0x20 ∷ 0 ∷ 9 ∷ 9 ∷ 9 ∷ 9 ∷ 1 ∷ 0 ∷ 0 ∷ 0 ∷ [])
-      ; wanted = (0x20 ∷ 0x00 ∷ 0x74 ∷ 0x2C ∷ []) ++ (replicate 22 0 ++ (7 ∷ 0 ∷ []))
-      }
+          ++ pagesAfter (countingTag 7 0) (0x20 ∷ 0 ∷ 9 ∷ 9 ∷ 9 ∷ 9 ∷ 1 ∷ 0 ∷ 0 ∷ 0 ∷ []);
+      wanted = (0x20 ∷ 0x00 ∷ 0x74 ∷ 0x2C ∷ []) ++ (replicate 22 0 ++ (7 ∷ 0 ∷ []));
+    }
     -- a password of all ones, checked with all ones, is refused
     ∷ record { found = replyTo onesTag (0x60 ∷ 0 ∷ replicate 8 0xFF); wanted = 0x60 ∷ 0x41 ∷ 0x9F ∷ 0x39 ∷ [] }
     -- READ at address 0xFF while open gives page 31
@@ -86,12 +86,12 @@ edges =
     -- draw number 0xF000 of 16 slots gives slot 16 and next 0xE619
     ∷ record { found = drawn 0xF000 16 .0 ∷ drawn 0xF000 16 .1 ∷ []; wanted = 16 ∷ 0xE619 ∷ [] }
     -- ATTRIB of 16 bytes is heard, of 10 or 17 not
-    ∷ record
-      { found =
+    ∷ record {
+      found =
           replyTo declaredTag (0x1D ∷ replicate 13 0)
-          ++ (replyTo declaredTag (0x1D ∷ replicate 7 0) ++ replyTo declaredTag (0x1D ∷ replicate 14 0))
-      ; wanted = 0x00 ∷ 0x78 ∷ 0xF0 ∷ []
-      }
+          ++ (replyTo declaredTag (0x1D ∷ replicate 7 0) ++ replyTo declaredTag (0x1D ∷ replicate 14 0));
+      wanted = 0x00 ∷ 0x78 ∷ 0xF0 ∷ [];
+    }
     ∷ []
 
 -- Every row agrees.

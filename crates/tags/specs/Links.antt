@@ -80,15 +80,15 @@ dismissed Active = Idle
 abbrev pub requested : Says → ℕ → Link → LinkHears
 requested answer n link =
     cond (eqb n 1) (moved link Declared (Some answer))
-    (record
-      { after =
-          record
-            { state = cond (eqb (drawn (link .draw) n .0) 1) Declared (Requested (drawn (link .draw) n .0))
-            ; cid = link .cid
-            ; draw = drawn (link .draw) n .1
-            }
-      ; says = cond (eqb (drawn (link .draw) n .0) 1) (Some answer) None
-      })
+    (record {
+      after =
+          record {
+            state = cond (eqb (drawn (link .draw) n .0) 1) Declared (Requested (drawn (link .draw) n .0));
+            cid = link .cid;
+            draw = drawn (link .draw) n .1;
+          };
+      says = cond (eqb (drawn (link .draw) n .0) 1) (Some answer) None;
+    })
 
 -- Families 0x00 and 0x01 are this family.
 abbrev pub hearsRequest : Says → ℕ → Bool → Slots → Link → LinkHears
@@ -118,10 +118,10 @@ isDeclared Active = false
 abbrev pub hearsAttrib : Bool → List ℕ → Link → LinkHears
 hearsAttrib own params link =
     cond (isDeclared (link .state) && own)
-    (record
-      { after = record { state = Active; cid = getD params 3 0 % 16; draw = link .draw }
-      ; says = Some (Card (getD params 3 0 % 16))
-      })
+    (record {
+      after = record { state = Active; cid = getD params 3 0 % 16; draw = link .draw };
+      says = Some (Card (getD params 3 0 % 16));
+    })
     (unmoved link)
 
 -- In declared, HLTB with the tag's serial number halts it.

@@ -24,11 +24,11 @@ PumpMeaning = Meaning Shown (List ℕ)
 -- What a value of the code stands for: of its 256 bytes the first 24 are shown.
 abbrev pub pumpMeans : PumpTag → PumpMeaning
 pumpMeans tag =
-    record
-      { shown = record { link = tag .link; pages = take 24 (tag .memory) }
-      ; hidden = drop 24 (tag .memory)
-      ; opened = tag .opened
-      }
+    record {
+      shown = record { link = tag .link; pages = take 24 (tag .memory) };
+      hidden = drop 24 (tag .memory);
+      opened = tag .opened;
+    }
 
 -- A pump tag has 24 bytes in pages 0 to 2 and 232 in pages 3 to 31.
 pub record PumpSized (m : PumpMeaning) : Type 0 where
@@ -41,12 +41,12 @@ pageOf n m = cond (ltb n 3) (pageAt n (m .shown .pages)) (pageAt (n - 3) (m .hid
 
 abbrev pub withPage : ℕ → List ℕ → PumpMeaning → PumpMeaning
 withPage n page m =
-    record
-      { shown =
-          record { link = m .shown .link; pages = cond (ltb n 3) (putPage n page (m .shown .pages)) (m .shown .pages) }
-      ; hidden = cond (ltb n 3) (m .hidden) (putPage (n - 3) page (m .hidden))
-      ; opened = m .opened
-      }
+    record {
+      shown =
+          record { link = m .shown .link; pages = cond (ltb n 3) (putPage n page (m .shown .pages)) (m .shown .pages) };
+      hidden = cond (ltb n 3) (m .hidden) (putPage (n - 3) page (m .hidden));
+      opened = m .opened;
+    }
 
 -- A question that a command asks: where the answer is no, the tag refuses with a code and does not change.
 abbrev pub asks : Bool → ℕ → PumpMeaning → Reaction PumpMeaning → Reaction PumpMeaning

@@ -35,11 +35,11 @@ module _ {S H : Type 0} where
   -- The reaction to a frame, with the reply in bytes. A frame that is not heard changes nothing.
   abbrev pub answered : (Heard → Meaning S H → Reaction (Meaning S H)) → Meaning S H → Option Heard → Hears S H
   answered reacts m (Some frame) =
-      record
-        { after = reacts frame m .after
-        ; reply = replyBytes frame (reacts frame m .says)
-        ; accepted = reacts frame m .accepted
-        }
+      record {
+        after = reacts frame m .after;
+        reply = replyBytes frame (reacts frame m .says);
+        accepted = reacts frame m .accepted;
+      }
   answered reacts m None = record { after = m; reply = []; accepted = false }
 
   abbrev pub hearsBy : (Heard → Meaning S H → Reaction (Meaning S H)) → List ℕ → Meaning S H → Hears S H

@@ -11,7 +11,6 @@ ghost use Rattle.tags.specs.Pages.{serialIn, applicationIn};
 ghost use Rattle.tags.specs.Reacts.{Reacted};
 ghost use Rattle.std.specs.declared.option.Option.the-variants.{Some};
 ghost use mathlib.Core.Bool.{false};
-
 use crate::hearing::React;
 use crate::hearing::Response;
 use crate::hearing::hear_frame;
@@ -98,25 +97,51 @@ impl GaugeTag {
             }
             Op::Write | Op::Lock | Op::CheckPassword | Op::Count => None,
         };
-        Response { said, accepted: false }
+        Response {
+            said,
+            accepted: false,
+        }
     }
 }
 
 pub impl React for GaugeTag as GaugeReact {
     ghost Shown = { Shown };
+
     ghost Hidden = { Unit {0} };
+
     ghost means = { gaugeMeans };
+
     ghost reacts = { reactsBy gaugeObeys };
 
     fn react(&mut self, told: Frame<'_>) -> Response {
         match (self.link.state, told) {
-            (State::Active, Frame::Command { op, cid, address, bytes }) if cid == self.link.cid => self.obey(op, address, *bytes),
-            (_, Frame::Command { .. }) => Response { said: None, accepted: false },
-            (_, Frame::Request { .. } | Frame::SlotMarker { .. } | Frame::Attrib { .. } | Frame::Halt { .. }) => {
+            (
+                State::Active,
+                Frame::Command {
+                    op,
+                    cid,
+                    address,
+                    bytes,
+                },
+            ) if cid == self.link.cid => self.obey(op, address, *bytes),
+            (_, Frame::Command { .. }) => Response {
+                said: None,
+                accepted: false,
+            },
+            (
+                _,
+                Frame::Request { .. }
+                | Frame::SlotMarker { .. }
+                | Frame::Attrib { .. }
+                | Frame::Halt { .. },
+            ) => {
                 let serial = self.serial();
                 let application = self.application();
                 let said = self.link.hear(told, serial, application);
-                Response { said, accepted: false }
+                Response {
+                    said,
+                    accepted: false,
+                }
             }
         }
     }
@@ -124,9 +149,13 @@ pub impl React for GaugeTag as GaugeReact {
 
 pub impl Kind for GaugeTag as GaugeKind {
     ghost Shown = { Shown };
+
     ghost Hidden = { Unit {0} };
+
     ghost means = { gaugeMeans };
+
     ghost acts = { gaugeActs };
+
     ghost off = { isOffTag };
 
     fn gain_power(&mut self) {

@@ -3,7 +3,6 @@ ghost use mathlib.Core.Path.{_≡_};
 ghost use Rattle.typeb.specs.Hears.{Heard, frameOf};
 ghost use Rattle.tags.specs.Kinds.{Meaning, Told};
 ghost use Rattle.tags.specs.Reacts.{Reaction, Reacted, hearsBy};
-
 use crate::kind::Hearing;
 use crate::said::Said;
 use crate::said::put_reply;
@@ -20,8 +19,11 @@ pub struct Response {
 // A tag that reacts to what it hears.
 pub trait React {
     ghost Shown: { Type 0 };
+
     ghost Hidden: { Type 0 };
+
     ghost means: { Self → Meaning Shown Hidden };
+
     ghost reacts: { Heard → Meaning Shown Hidden → Reaction (Meaning Shown Hidden) };
 
     fn react(&mut self, told: Frame<'_>) -> Response
@@ -33,9 +35,15 @@ pub fn hear_frame<T: React>(tag: &mut T, frame: &[u8], reply: &mut [u8; 16]) -> 
     ensures { λ r. ⌜ Told (hearsBy reacts (now (frame .entry)) (means (now (tag .entry)))) (means (now (tag .exit))) (now (reply .entry)) (now (reply .exit)) (r .len) (r .accepted) ⌝ }
 {
     let Some(told) = read_frame(frame) else {
-        return Hearing { len: 0, accepted: false };
+        return Hearing {
+            len: 0,
+            accepted: false,
+        };
     };
     let response = tag.react(told);
     let len = put_reply(told, response.said, reply);
-    Hearing { len, accepted: response.accepted }
+    Hearing {
+        len,
+        accepted: response.accepted,
+    }
 }

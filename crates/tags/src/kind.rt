@@ -14,9 +14,13 @@ pub struct Hearing {
 // A kind says what its tags mean and how they act on meanings; generic code is proved from its duties alone.
 pub trait Kind: Copy {
     ghost Shown: { Type 0 };
+
     ghost Hidden: { Type 0 };
+
     ghost means: { Self → Meaning Shown Hidden };
+
     ghost acts: { Behaviour Shown Hidden };
+
     ghost off: { Shown → Bool };
 
     law duties: { Duties off acts };

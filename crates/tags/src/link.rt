@@ -4,7 +4,6 @@ ghost use mathlib.Core.Path.{_≡_};
 ghost use Rattle.typeb.specs.Hears.{frameOf, slotCount};
 ghost use Rattle.tags.specs.Links.{newLink, gainsLink, losesLink, drawn, linkHears, requested, deselected};
 ghost use Rattle.tags.specs.Says.{saysOf, sayingOf};
-
 use crate::said::Said;
 use typeb::bytes::same_bytes;
 use typeb::frames::Frame;
@@ -46,7 +45,11 @@ impl Link {
     pub fn new(draw: u16) -> Link
         ensures { λ r. ⌜ r ≡ newLink draw ⌝ }
     {
-        Link { state: State::Off, cid: 0, draw }
+        Link {
+            state: State::Off,
+            cid: 0,
+            draw,
+        }
     }
 
     pub fn gain_power(&mut self)
@@ -92,10 +95,27 @@ impl Link {
         ensures after { λ _. ⌜ now (self .exit) ≡ linkHears own application (frameOf (told .entry)) (now (self .entry)) .after ⌝ }
         ensures says { λ r. ⌜ sayingOf r ≡ linkHears own application (frameOf (told .entry)) (now (self .entry)) .says ⌝ }
     {
-        let answer = Said::Answer { serial: own, application };
+        let answer = Said::Answer {
+            serial: own,
+            application,
+        };
         match (self.state, told) {
-            (State::Idle | State::Requested { .. } | State::Declared, Frame::Request { family: 0 | 1, slots, .. })
-            | (State::Halted, Frame::Request { family: 0 | 1, wake_up: true, slots }) => self.request(answer, slots),
+            (
+                State::Idle | State::Requested { .. } | State::Declared,
+                Frame::Request {
+                    family: 0 | 1,
+                    slots,
+                    ..
+                },
+            )
+            | (
+                State::Halted,
+                Frame::Request {
+                    family: 0 | 1,
+                    wake_up: true,
+                    slots,
+                },
+            ) => self.request(answer, slots),
             (State::Idle | State::Requested { .. } | State::Declared, Frame::Request { .. }) => {
                 self.state = State::Idle;
                 None
@@ -104,11 +124,12 @@ impl Link {
                 self.state = State::Declared;
                 Some(answer)
             }
-            (State::Declared, Frame::Attrib { serial, params, .. }) if same_bytes(&serial, &own) => {
-                self.cid = params[3] % 16;
-                self.state = State::Active;
-                Some(Said::Card(self.cid))
-            }
+            (State::Declared, Frame::Attrib { serial, params, .. }) if same_bytes(&serial, &own) =>
+                {
+                    self.cid = params[3] % 16;
+                    self.state = State::Active;
+                    Some(Said::Card(self.cid))
+                }
             (State::Declared, Frame::Halt { serial }) if same_bytes(&serial, &own) => {
                 self.state = State::Halted;
                 Some(Said::Acknowledged)

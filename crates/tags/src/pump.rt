@@ -12,7 +12,6 @@ ghost use Rattle.tags.specs.Common.{Shown, isOffTag, reactsBy, deselects};
 ghost use Rattle.tags.specs.Pump.{pumpMeans, pageOf, withPage, pumpActs, pumpObeys};
 ghost use Rattle.tags.specs.Pump.{pumpReads, pumpWrites, pumpLocks, pumpChecks, pumpCounts};
 ghost use Rattle.tags.specs.Reacts.{Reacted};
-
 use crate::hearing::React;
 use crate::hearing::Response;
 use crate::hearing::hear_frame;
@@ -36,7 +35,9 @@ use typeb::frames::Serial;
 
 // The page of serial number and lock bits, that of signature and counter, and the password.
 const LOCK_PAGE: u8 = 0;
+
 const COUNT_PAGE: u8 = 2;
+
 const PASSWORD_PAGE: u8 = 3;
 
 // The counter stops here.
@@ -161,7 +162,19 @@ impl PumpTag {
         let p = self.page(LOCK_PAGE);
         // bit 0 would name the page of the lock bits itself
         let first = p[4] | (bytes[4] / 2 * 2);
-        self.set_page(LOCK_PAGE, [p[0], p[1], p[2], p[3], first, p[5] | bytes[5], p[6] | bytes[6], p[7] | bytes[7]]);
+        self.set_page(
+            LOCK_PAGE,
+            [
+                p[0],
+                p[1],
+                p[2],
+                p[3],
+                first,
+                p[5] | bytes[5],
+                p[6] | bytes[6],
+                p[7] | bytes[7],
+            ],
+        );
         Said::Acknowledged
     }
 
@@ -169,10 +182,18 @@ impl PumpTag {
     fn check_password(&mut self, bytes: PageBytes) -> Response
         ensures { λ r. ⌜ Reacted (pumpChecks bytes (pumpMeans (now (self .entry)))) (pumpMeans (now (self .exit))) (r .said) (r .accepted) ⌝ }
     {
-        let passed = !same_bytes(&bytes, &[0xFF; 8]) && same_bytes(&bytes, &self.page(PASSWORD_PAGE));
+        let passed = !same_bytes(&bytes, &[0xFF; 8])
+            && same_bytes(&bytes, &self.page(PASSWORD_PAGE));
         self.opened = passed;
-        let said = if passed { Said::Acknowledged } else { Said::Refused(Nack::NotOpen) };
-        Response { said: Some(said), accepted: passed }
+        let said = if passed {
+            Said::Acknowledged
+        } else {
+            Said::Refused(Nack::NotOpen)
+        };
+        Response {
+            said: Some(said),
+            accepted: passed,
+        }
     }
 
     fn deselect(&mut self) -> Said
@@ -213,25 +234,51 @@ impl PumpTag {
             Op::Deselect => self.deselect(),
             Op::Count => self.count(bytes),
         };
-        Response { said: Some(said), accepted: false }
+        Response {
+            said: Some(said),
+            accepted: false,
+        }
     }
 }
 
 pub impl React for PumpTag as PumpReact {
     ghost Shown = { Shown };
+
     ghost Hidden = { List ℕ };
+
     ghost means = { pumpMeans };
+
     ghost reacts = { reactsBy pumpObeys };
 
     fn react(&mut self, told: Frame<'_>) -> Response {
         match (self.link.state, told) {
-            (State::Active, Frame::Command { op, cid, address, bytes }) if cid == self.link.cid => self.obey(op, address, *bytes),
-            (_, Frame::Command { .. }) => Response { said: None, accepted: false },
-            (_, Frame::Request { .. } | Frame::SlotMarker { .. } | Frame::Attrib { .. } | Frame::Halt { .. }) => {
+            (
+                State::Active,
+                Frame::Command {
+                    op,
+                    cid,
+                    address,
+                    bytes,
+                },
+            ) if cid == self.link.cid => self.obey(op, address, *bytes),
+            (_, Frame::Command { .. }) => Response {
+                said: None,
+                accepted: false,
+            },
+            (
+                _,
+                Frame::Request { .. }
+                | Frame::SlotMarker { .. }
+                | Frame::Attrib { .. }
+                | Frame::Halt { .. },
+            ) => {
                 let serial = self.serial();
                 let application = self.application();
                 let said = self.link.hear(told, serial, application);
-                Response { said, accepted: false }
+                Response {
+                    said,
+                    accepted: false,
+                }
             }
         }
     }
@@ -239,9 +286,13 @@ pub impl React for PumpTag as PumpReact {
 
 pub impl Kind for PumpTag as PumpKind {
     ghost Shown = { Shown };
+
     ghost Hidden = { List ℕ };
+
     ghost means = { pumpMeans };
+
     ghost acts = { pumpActs };
+
     ghost off = { isOffTag };
 
     fn gain_power(&mut self) {

@@ -23,16 +23,65 @@ pub struct Rights {
     pub write: Writing,
 }
 
-const LOCKS: Rights = Rights { read: Reading::Always, write: Writing::Never };
-const SHOWN: Rights = Rights { read: Reading::Always, write: Writing::WhenOpen };
-const COUNT: Rights = Rights { read: Reading::Always, write: Writing::ByCount };
-const SECRET: Rights = Rights { read: Reading::Never, write: Writing::WhenOpen };
-const USER: Rights = Rights { read: Reading::WhenOpen, write: Writing::WhenOpen };
+const LOCKS: Rights = Rights {
+    read: Reading::Always,
+    write: Writing::Never,
+};
+
+const SHOWN: Rights = Rights {
+    read: Reading::Always,
+    write: Writing::WhenOpen,
+};
+
+const COUNT: Rights = Rights {
+    read: Reading::Always,
+    write: Writing::ByCount,
+};
+
+const SECRET: Rights = Rights {
+    read: Reading::Never,
+    write: Writing::WhenOpen,
+};
+
+const USER: Rights = Rights {
+    read: Reading::WhenOpen,
+    write: Writing::WhenOpen,
+};
 
 // The rights of the 32 pages.
 const RIGHTS: [Rights; 32] = [
-    LOCKS, SHOWN, COUNT, SECRET, USER, USER, USER, USER, USER, USER, USER, USER, USER, USER, USER, USER,
-    USER, USER, USER, USER, USER, USER, USER, USER, USER, USER, USER, USER, USER, USER, USER, USER,
+    LOCKS,
+    SHOWN,
+    COUNT,
+    SECRET,
+    USER,
+    USER,
+    USER,
+    USER,
+    USER,
+    USER,
+    USER,
+    USER,
+    USER,
+    USER,
+    USER,
+    USER,
+    USER,
+    USER,
+    USER,
+    USER,
+    USER,
+    USER,
+    USER,
+    USER,
+    USER,
+    USER,
+    USER,
+    USER,
+    USER,
+    USER,
+    USER,
+    USER,
 ];
 
 // The rights of a page, of which the low five bits count.

@@ -7,7 +7,6 @@ ghost use Rattle.typeb.specs.CheckBytes.{sealed};
 ghost use Rattle.typeb.specs.Hears.{frameOf};
 ghost use Rattle.tags.specs.Kinds.{Placed};
 ghost use Rattle.tags.specs.Says.{Answer, Page, protocolInfo, nackCode, repeated, echo, pageNamed, saidBody, replyBytes, saysOf, sayingOf};
-
 use typeb::crc::seal_into;
 use typeb::frames::Frame;
 use typeb::frames::Serial;
@@ -38,7 +37,10 @@ impl Nack {
 #[derive(Clone, Copy)]
 pub enum Said {
     // ATQB: the answer to a request
-    Answer { serial: Serial, application: [u8; 4] },
+    Answer {
+        serial: Serial,
+        application: [u8; 4],
+    },
     // the card number taken from ATTRIB
     Card(u8),
     // the page that was asked for
@@ -59,11 +61,22 @@ fn echo_of(told: Frame<'_>) -> Echo
     ensures page { λ r. ⌜ r .page ≡ pageNamed (frameOf (told .entry)) ⌝ }
 {
     match told {
-        Frame::Command { op, cid, address, .. } => Echo {
+        Frame::Command {
+            op,
+            cid,
+            address,
+            ..
+        } => Echo {
             head: Some(op.head(cid)),
             page: address % 32,
         },
-        Frame::Request { .. } | Frame::SlotMarker { .. } | Frame::Attrib { .. } | Frame::Halt { .. } => Echo { head: None, page: 0 },
+        Frame::Request { .. }
+        | Frame::SlotMarker { .. }
+        | Frame::Attrib { .. }
+        | Frame::Halt { .. } => Echo {
+            head: None,
+            page: 0,
+        },
     }
 }
 
@@ -79,7 +92,23 @@ fn put_sealed(body: &[u8], reply: &mut [u8; 16]) -> usize
 fn put_answer(s: Serial, a: [u8; 4], reply: &mut [u8; 16]) -> usize
     ensures { λ r. ⌜ Placed (sealed (saidBody [] 0 (Answer s a protocolInfo))) (now (reply .entry)) (now (reply .exit)) r ⌝ }
 {
-    put_sealed(&[0x50, s[0], s[1], s[2], s[3], a[0], a[1], a[2], a[3], 0x00, 0x00, 0x41], reply)
+    put_sealed(
+        &[
+            0x50,
+            s[0],
+            s[1],
+            s[2],
+            s[3],
+            a[0],
+            a[1],
+            a[2],
+            a[3],
+            0x00,
+            0x00,
+            0x41,
+        ],
+        reply,
+    )
 }
 
 // A page behind what is repeated.
@@ -87,8 +116,25 @@ fn put_page(echo: Echo, b: [u8; 8], reply: &mut [u8; 16]) -> usize
     ensures { λ r. ⌜ Placed (sealed (saidBody (repeated (echo .head)) (echo .page) (Page b))) (now (reply .entry)) (now (reply .exit)) r ⌝ }
 {
     match echo.head {
-        Some(head) => put_sealed(&[head, echo.page, b[0], b[1], b[2], b[3], b[4], b[5], b[6], b[7]], reply),
-        None => put_sealed(&[echo.page, b[0], b[1], b[2], b[3], b[4], b[5], b[6], b[7]], reply),
+        Some(head) => put_sealed(
+            &[
+                head,
+                echo.page,
+                b[0],
+                b[1],
+                b[2],
+                b[3],
+                b[4],
+                b[5],
+                b[6],
+                b[7],
+            ],
+            reply,
+        ),
+        None => put_sealed(
+            &[echo.page, b[0], b[1], b[2], b[3], b[4], b[5], b[6], b[7]],
+            reply,
+        ),
     }
 }
 
@@ -107,7 +153,10 @@ fn put_said(echo: Echo, said: Said, reply: &mut [u8; 16]) -> usize
     ensures { λ r. ⌜ Placed (sealed (saidBody (repeated (echo .head)) (echo .page) (saysOf said))) (now (reply .entry)) (now (reply .exit)) r ⌝ }
 {
     match said {
-        Said::Answer { serial, application } => put_answer(serial, application, reply),
+        Said::Answer {
+            serial,
+            application,
+        } => put_answer(serial, application, reply),
         Said::Card(cid) => put_sealed(&[cid], reply),
         Said::Page(bytes) => put_page(echo, bytes, reply),
         Said::Acknowledged => put_status(echo, 0x00, reply),

@@ -22,7 +22,7 @@ placed body buf a b h =
     let rest : List ℕ = drop n buf in
     let one : set (body ++ rest) n a ≡ body ++ set rest (n - n) a = set-append-right body rest n n a refl (omega arith) in
     let two : set (body ++ set rest (n - n) a) (n + 1) b ≡ body ++ set (set rest (n - n) a) (n + 1 - n) b =
-      set-append-right body (set rest (n - n) a) n (n + 1) b refl (omega arith) in
+    set-append-right body (set rest (n - n) a) n (n + 1) b refl (omega arith) in
     let z : n - n ≡ 0 = omega arith in
     let o : n + 1 - n ≡ 1 = omega arith in
     let room : 2 ≤ length rest = simp length-drop (omega arith) in

@@ -62,7 +62,10 @@ fn ends_in_check_bytes(frame: &[u8]) -> bool
     ensures { λ r. ⌜ r ≡ sound (now (frame .entry)) ⌝ }
 {
     match frame {
-        [body @ .., low, high] if !body.is_empty() => same_bytes(&[*low, *high], &check_bytes(body)),
+        [body @ .., low, high] if !body.is_empty() => same_bytes(
+            &[*low, *high],
+            &check_bytes(body),
+        ),
         _ => false,
     }
 }

@@ -12,7 +12,7 @@ pub returns : need.returns
 returns c =
     let room : length (c .args .body .now) + 2 ≤ length (c .args .buffer .now) = omega arith in
     let fits : leb (length (c .args .body .now) + 2) (length (c .args .buffer .now)) ≡ true = le-leb _ _ room in
-    record
-      { size = simp fits refl
-      ; buffer = simp fits (sealed-in-front (c .args .body .now) (c .args .buffer .now) _ _ room (c .copy-from-slice .ensures .after) (c .check-bytes .ensures))
-      }
+    record {
+      size = simp fits refl;
+      buffer = simp fits (sealed-in-front (c .args .body .now) (c .args .buffer .now) _ _ room (c .copy-from-slice .ensures .after) (c .check-bytes .ensures));
+    }

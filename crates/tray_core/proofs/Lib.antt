@@ -1,0 +1,16 @@
+pub mod Voices
+pub mod Walks
+pub mod Meets
+pub mod Lined
+pub mod Near
+pub mod Hidden
+pub mod CountFrames
+pub mod Pumps
+pub mod PumpRows
+pub mod Mild
+pub mod Held
+pub mod Locked
+pub mod Speaks
+pub mod Slots
+pub mod Rounds
+pub mod Stocked

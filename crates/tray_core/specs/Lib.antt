@@ -1,0 +1,9 @@
+pub mod Sounds
+pub mod Rows
+pub mod Trays
+pub mod Scripts
+pub mod Stock
+pub mod Step
+pub mod Runs
+pub mod Laws
+pub mod Views
