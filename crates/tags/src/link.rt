@@ -2,7 +2,7 @@
 ghost use Prim.Native.Nat.{_<_};
 ghost use mathlib.Core.Path.{_≡_};
 ghost use Rattle.typeb.specs.Hears.{frameOf, slotCount};
-ghost use Rattle.tags.specs.Links.{newLink, gainsLink, losesLink, drawn, linkHears, requested, deselected};
+ghost use Rattle.tags.specs.Links.{newLink, gainsLink, losesLink, drawn, linkHears, hearsRequest, requested, deselected};
 ghost use Rattle.tags.specs.Says.{saysOf, sayingOf};
 use crate::said::Said;
 use typeb::bytes::same_bytes;
@@ -90,6 +90,29 @@ impl Link {
         Some(answer)
     }
 
+    // A request is heard in idle, requested and declared; halted hears only WUPB.
+    fn hear_request(
+        &mut self,
+        answer: Said,
+        family: u8,
+        wake_up: bool,
+        slots: Slots,
+    ) -> Option<Said>
+        ensures after { λ _. ⌜ now (self .exit) ≡ hearsRequest (saysOf answer) family «wake_up» slots (now (self .entry)) .after ⌝ }
+        ensures says { λ r. ⌜ sayingOf r ≡ hearsRequest (saysOf answer) family «wake_up» slots (now (self .entry)) .says ⌝ }
+    {
+        match (self.state, family) {
+            (State::Off | State::Active, _) => None,
+            (State::Halted, _) if !wake_up => None,
+            (_, 0 | 1) => self.request(answer, slots),
+            (State::Halted, _) => None,
+            (State::Idle | State::Requested { .. } | State::Declared, _) => {
+                self.state = State::Idle;
+                None
+            }
+        }
+    }
+
     // Hears a request, a slot marker, ATTRIB or HLTB, for a tag with this serial number and application data.
     pub fn hear(&mut self, told: Frame<'_>, own: Serial, application: [u8; 4]) -> Option<Said>
         ensures after { λ _. ⌜ now (self .exit) ≡ linkHears own application (frameOf (told .entry)) (now (self .entry)) .after ⌝ }
@@ -101,25 +124,13 @@ impl Link {
         };
         match (self.state, told) {
             (
-                State::Idle | State::Requested { .. } | State::Declared,
+                _,
                 Frame::Request {
-                    family: 0 | 1,
-                    slots,
-                    ..
-                },
-            )
-            | (
-                State::Halted,
-                Frame::Request {
-                    family: 0 | 1,
-                    wake_up: true,
+                    family,
+                    wake_up,
                     slots,
                 },
-            ) => self.request(answer, slots),
-            (State::Idle | State::Requested { .. } | State::Declared, Frame::Request { .. }) => {
-                self.state = State::Idle;
-                None
-            }
+            ) => self.hear_request(answer, family, wake_up, slots),
             (State::Requested { slot: drawn }, Frame::SlotMarker { slot }) if drawn == slot => {
                 self.state = State::Declared;
                 Some(answer)
