@@ -14,3 +14,4 @@ pub mod Speaks
 pub mod Slots
 pub mod Rounds
 pub mod Stocked
+pub mod Tallies

@@ -1,7 +1,9 @@
 -- Taking stock: which tags are there, by requests of sixteen slots.
-use Prim.Native.Nat.{ℕ, zero, suc, _+_}
+use Prim.Native.Nat.{ℕ, zero, suc, _+_, _*_, _≤_}
 use mathlib.Core.Bool.{Bool, true, false, cond, _||_}
 use mathlib.Core.List.{List, [], _∷_, _++_, map}
+use mathlib.Core.Path.{_≡_}
+use lib.ListN.{length}
 use Rattle.std.specs.Iters.{counting}
 use Rattle.std.specs.declared.option.Option.{Option}
 use Rattle.std.specs.declared.option.Option.the-variants.{Some, None}
@@ -91,3 +93,19 @@ rounds (suc n) wakeUp c = slots (roundFrames wakeUp) (λ d. cond (d .silent) (do
 unfoldable pub stocktaking : Script Tally
 unfolding rounds
 stocktaking = rounds 8 true nothing
+
+-- Every serial number stands once in a list.
+abbrev pub Once : List (List ℕ) → Type 0
+Once [] = Unit {0}
+Once (x ∷ xs) = (lists x xs ≡ false) × Once xs
+
+-- What holds of the count of every stock, whatever the reader heard: one to eight rounds, sixteen frames in each and at
+-- most one HLTB for each slot, at most sixteen clashed slots, and every serial number listed once, 128 at most.
+pub record Fair (c : Tally) : Type 0 where
+  pub some-round : 1 ≤ c .rounds
+  pub most-rounds : c .rounds ≤ 8
+  pub least-frames : 16 * c .rounds ≤ c .frames
+  pub most-frames : c .frames ≤ 32 * c .rounds
+  pub most-clashes : c .clashes ≤ 16
+  pub once : Once (c .serials)
+  pub few : length (c .serials) ≤ 16 * c .rounds

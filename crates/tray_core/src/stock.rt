@@ -4,10 +4,10 @@ ghost use mathlib.Core.Bool.{true, false};
 ghost use mathlib.Core.List.{List};
 ghost use mathlib.Core.Path.{_≡_};
 ghost use lib.ListN.{length, drop};
-ghost use Rattle.tray_core.specs.Scripts.{Script, done, SameEnd};
-ghost use Rattle.tray_core.specs.Stock.{Tally, slot, slots, roundFrames, nextRound, stocktaking};
+ghost use Rattle.tray_core.specs.Scripts.{Script, done, played, SameEnd};
+ghost use Rattle.tray_core.specs.Stock.{Fair, Tally, slot, slots, roundFrames, nextRound, stocktaking};
 ghost use Rattle.tray_core.specs.Step.{Stepped, step, Stock};
-ghost use Rattle.tray_core.specs.Trays.{rowsFit, afterFrame, soundsOf};
+ghost use Rattle.tray_core.specs.Trays.{Model, rowsFit, afterFrame, soundsOf};
 ghost use Rattle.tray_core.specs.Views.{GoesOn, NotedIn, begun, bytesOf, modelOf, soundsIn, tallyOf};
 use crate::calls::Answer;
 use crate::message::Message;
@@ -116,9 +116,8 @@ impl<F: Kind, B: Kind> Tray<F, B> {
         p
     }
 
-    // Lists the serial numbers of the tags that answer, each once, in the first places of the list.
-    // Answers frames sent, rounds, clashed slots of the last round, and how many places are filled.
-    pub fn stock(&mut self, list: &mut [Serial]) -> Result<Answer, Refusal>
+    // The stock is taken, or the call is refused.
+    fn ask_and_stock(&mut self, list: &mut [Serial]) -> Result<Answer, Refusal>
         ensures { λ r. ⌜ ((b : List ℕ) → Stepped (step (F·Kind .acts) (B·Kind .acts) Stock (modelOf (F·Kind .means) (B·Kind .means) (now (self .entry))) b (now (list .entry))) r (modelOf (F·Kind .means) (B·Kind .means) (now (self .exit))) b (now (list .exit))) ⌝ }
     {
         if !self.fits() {
@@ -134,5 +133,14 @@ impl<F: Kind, B: Kind> Tray<F, B> {
             clashes: p.clashes,
             listed: p.listed,
         })
+    }
+
+    // Lists the serial numbers of the tags that answer, each once, in the first places of the list.
+    // Answers frames sent, rounds, clashed slots of the last round, and how many places are filled.
+    pub fn stock(&mut self, list: &mut [Serial]) -> Result<Answer, Refusal>
+        ensures result { λ r. ⌜ ((b : List ℕ) → Stepped (step (F·Kind .acts) (B·Kind .acts) Stock (modelOf (F·Kind .means) (B·Kind .means) (now (self .entry))) b (now (list .entry))) r (modelOf (F·Kind .means) (B·Kind .means) (now (self .exit))) b (now (list .exit))) ⌝ }
+        ensures fair { λ _. ⌜ ((t : Model (F·Kind .Shown) (F·Kind .Hidden) (B·Kind .Shown) (B·Kind .Hidden)) → Fair (played (F·Kind .acts) (B·Kind .acts) stocktaking t)) ⌝ }
+    {
+        self.ask_and_stock(list)
     }
 }
