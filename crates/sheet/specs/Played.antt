@@ -1,4 +1,4 @@
--- A run told by its calls alone: which lines are calls, and what these do to the loaded tray, one after another.
+-- A run told without its lines' order: which of them name tags, which are calls, and what the calls do to the loaded tray.
 use Prim.Native.Nat.{ℕ, _+_}
 use mathlib.Core.List.{List, [], _∷_, _++_}
 use mathlib.Core.Path.{_≡_}
@@ -6,15 +6,15 @@ use Rattle.std.specs.declared.option.Option.{Option}
 use Rattle.std.specs.declared.option.Option.the-variants.{Some, None}
 use Rattle.std.specs.declared.result.Result.{Result}
 use Rattle.std.specs.declared.result.Result.the-variants.{Ok, Err}
-use Rattle.tags.specs.Gauge.{GaugeMeaning, gaugeActs}
-use Rattle.tags.specs.Pump.{PumpMeaning, pumpActs}
+use Rattle.tags.specs.Gauge.{gaugeActs}
+use Rattle.tags.specs.Pump.{pumpActs}
 use Rattle.tray_core.specs.declared.calls.Answer.{Answer}
 use Rattle.tray_core.specs.Step.{Asks, Outcome, step}
-use Rattle.tray_core.specs.Trays.{loadedWith}
 use Rattle.sheet.specs.declared.faults.LineFault.{LineFault}
+use Rattle.sheet.specs.declared.words.TagKind.{TagKind}
 use Rattle.sheet.specs.Lines.{Says, Tag, Page, Calls, lineSays, parted}
 use Rattle.sheet.specs.Printing.{printedAnswer, printedRefusal}
-use Rattle.sheet.specs.Sheets.{SheetTray, Stage, Naming, Calling, Run, Refused, emptyBuffer, emptyList, runOf}
+use Rattle.sheet.specs.Sheets.{SheetTray, Stage, Naming, Came, Went, Run, Refused, emptyBuffer, emptyList, named, paged, trayIn, runOf}
 
 -- A line that is a call, with its number.
 pub record CallLine : Type 0 where
@@ -32,6 +32,30 @@ abbrev pub callsIn : ℕ → List (List ℕ) → List CallLine
 callsIn number [] = []
 callsIn number (line ∷ lines) = callIn number (lineSays line) (callsIn (number + 1) lines)
 
+-- A line that names a tag or sets a page.
+pub data Names : Type 0 where
+  NewTag : TagKind → ℕ → Names
+  SetPage : ℕ → ℕ → List ℕ → Names
+
+abbrev pub nameIn : Result Says LineFault → List Names → List Names
+nameIn (Ok (Tag kind draw)) more = NewTag kind draw ∷ more
+nameIn (Ok (Page tag page bytes)) more = SetPage tag page bytes ∷ more
+nameIn (Ok (Calls call)) more = more
+nameIn (Err fault) more = more
+
+abbrev pub namesIn : List (List ℕ) → List Names
+namesIn [] = []
+namesIn (line ∷ lines) = nameIn (lineSays line) (namesIn lines)
+
+abbrev pub doesName : Names → Stage → Came
+doesName (NewTag kind draw) stage = named kind draw stage
+doesName (SetPage tag page bytes) stage = paged tag page bytes stage
+
+-- Tags named and pages set, one after another, lead from one stage to another.
+abbrev pub Leads : Stage → List Names → Stage → Type 0
+Leads stage [] last = stage ≡ last
+Leads stage (line ∷ lines) last = (next : Stage) × ((doesName line stage ≡ Went [] next) × Leads next lines last)
+
 abbrev pub stepOf : CallLine → SheetTray → Outcome SheetTray
 stepOf line tray = step pumpActs gaugeActs (line .call) tray emptyBuffer emptyList
 
@@ -43,27 +67,26 @@ Played tray (line ∷ lines) text =
     × (text ≡ printedAnswer (line .number) answer (stepOf line tray .buffer) (stepOf line tray .list) ++ rest)
     × Played (stepOf line tray .tray) lines rest))
 
--- The tray that the calls begin with: loaded with the tags that were named, or the one in hand.
-abbrev pub Begins : Stage → SheetTray → Type 0
-Begins (Naming front back) tray = (pumps : List PumpMeaning) × ((gauges : List GaugeMeaning) × (tray ≡ loadedWith pumps gauges))
-Begins (Calling now) tray = tray ≡ now
-
 abbrev pub refusalText : Option Refused → List ℕ
 refusalText (Some r) = printedRefusal (r .line) (r .why)
 refusalText None = []
 
--- A run plays the first of these calls, all of them where it is not refused, and prints their text and its refusal's line.
-pub record Plays (stage : Stage) (all : List CallLine) (run : Run) : Type 0 where
-  pub tray : SheetTray
-  pub begins : Begins stage tray
-  pub calls : List CallLine
-  pub unplayed : List CallLine
-  pub in-order : all ≡ calls ++ unplayed
+-- A run takes the first of these tag and page lines, loads the tray with what they name, and plays the first of these calls,
+-- all of them where it is not refused. It prints their text and its refusal's line.
+pub record Plays (stage : Stage) (names : List Names) (calls : List CallLine) (run : Run) : Type 0 where
+  pub taken : List Names
+  pub untaken : List Names
+  pub names-order : names ≡ taken ++ untaken
+  pub loaded : Stage
+  pub leads : Leads stage taken loaded
+  pub made : List CallLine
+  pub unmade : List CallLine
+  pub calls-order : calls ≡ made ++ unmade
   pub text : List ℕ
-  pub played : Played tray calls text
+  pub played : Played (trayIn loaded) made text
   pub prints : run .text ≡ text ++ refusalText (run .refused)
-  pub whole : run .refused ≡ None → unplayed ≡ []
+  pub whole : run .refused ≡ None → unmade ≡ []
 
 -- So does the run of a sheet, from a tray without tags.
 abbrev pub SheetPlays : List ℕ → Type 0
-SheetPlays sheet = Plays (Naming [] []) (callsIn 1 (parted 10 sheet)) (runOf sheet)
+SheetPlays sheet = Plays (Naming [] []) (namesIn (parted 10 sheet)) (callsIn 1 (parted 10 sheet)) (runOf sheet)
