@@ -47,7 +47,7 @@ impl fmt::Display for Quoted<'_> {
 
 // Characters as they are quoted.
 fn put_quoted<W: fmt::Write>(f: &mut fmt::Formatter<W>, text: &[u8]) -> fmt::Result
-    ensures { WritesOnOk write_str_gives f.old result (flat_map quoted_byte text.now) f.new }
+    ensures { WritesOnOk W.write_str_gives f.old result (flat_map quoted_byte text.now) f.new }
 {
     for c in text {
         put_byte(f, *c)?;
@@ -57,7 +57,7 @@ fn put_quoted<W: fmt::Write>(f: &mut fmt::Formatter<W>, text: &[u8]) -> fmt::Res
 
 // A printable character as it stands, any other as \x and its code.
 fn put_byte<W: fmt::Write>(f: &mut fmt::Formatter<W>, c: u8) -> fmt::Result
-    ensures { WritesOnOk write_str_gives f.old result (quoted_byte c) f.new }
+    ensures { WritesOnOk W.write_str_gives f.old result (quoted_byte c) f.new }
 {
     if c >= b' ' && c <= b'~' {
         return f.write_char(char::from(c));

@@ -1,4 +1,6 @@
 // Says what a tag hears in frames that are given as lines of hex.
+#![tactic(auto)]
+
 mod decoding;
 mod faults;
 mod lines;

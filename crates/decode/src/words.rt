@@ -47,7 +47,7 @@ fn put_request<W: fmt::Write>(
     wake_up: bool,
     slots: Slots,
 ) -> fmt::Result
-    ensures { WritesOnOk write_str_gives f.old result (request_words family wake_up slots) f.new }
+    ensures { WritesOnOk W.write_str_gives f.old result (request_words family wake_up slots) f.new }
 {
     let name = if wake_up { "WUPB" } else { "REQB" };
     let code = [family];
@@ -80,7 +80,7 @@ fn put_attrib<W: fmt::Write>(
     params: [u8; 4],
     inf: &[u8],
 ) -> fmt::Result
-    ensures { WritesOnOk write_str_gives f.old result (attrib_words serial params inf.now) f.new }
+    ensures { WritesOnOk W.write_str_gives f.old result (attrib_words serial params inf.now) f.new }
 {
     let card = params[3] % 16;
     let serial = Hex(&serial);
@@ -94,7 +94,7 @@ fn put_attrib<W: fmt::Write>(
 
 // HLTB.
 fn put_halt<W: fmt::Write>(f: &mut fmt::Formatter<W>, serial: Serial) -> fmt::Result
-    ensures { WritesOnOk write_str_gives f.old result (halt_words serial) f.new }
+    ensures { WritesOnOk W.write_str_gives f.old result (halt_words serial) f.new }
 {
     let serial = Hex(&serial);
     write!(f, "HLTB, serial {serial}")
@@ -150,7 +150,7 @@ fn put_command<W: fmt::Write>(
     address: u8,
     bytes: &[u8; 8],
 ) -> fmt::Result
-    ensures { WritesOnOk write_str_gives f.old result (command_words op cid address bytes.now) f.new }
+    ensures { WritesOnOk W.write_str_gives f.old result (command_words op cid address bytes.now) f.new }
 {
     let name = op_name(op);
     let carried = Carried { op, address, bytes };

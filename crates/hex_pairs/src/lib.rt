@@ -1,4 +1,6 @@
 // Bytes as hex text: two lower-case digits for each byte, the high nibble first.
+#![tactic(auto)]
+
 ghost use Rattle.std.specs.Prelude.{◌≡◌, ◌%◌, [], ◌∷◌, Some};
 ghost use Rattle.hex_pairs.specs.Hex.{hex_digit, hex_text, digit_value, ReadsBack, OnlyWritten, AllDigits};
 ghost use Rattle.std.specs.Fmt.{WritesOnOk};
@@ -64,7 +66,7 @@ impl fmt::Display for Hex<'_> {
 
 // Writes the two digits of a byte.
 fn put_byte<W: fmt::Write>(f: &mut fmt::Formatter<W>, byte: u8) -> fmt::Result
-    ensures { WritesOnOk write_str_gives f.old result (hex_text (byte ∷ [])) f.new }
+    ensures { WritesOnOk W.write_str_gives f.old result (hex_text (byte ∷ [])) f.new }
 {
     let pair = digits(byte);
     match str::from_utf8(&pair) {

@@ -1,4 +1,6 @@
 // Texts that are cut at a mark.
+#![tactic(auto)]
+
 ghost use Rattle.std.specs.Prelude.{◌≡◌, ◌≤◌, length};
 ghost use Rattle.parts.specs.Parts.{first_length, parted, field_at};
 

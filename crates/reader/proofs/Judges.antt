@@ -21,19 +21,19 @@ use Rattle.reader.proofs.Answered.{judged_back}
 
 -- all that a tag can say to a command's frame can be said in answer to the command
 can_be_said : (a : Asked) → in_range a ≡ true → ToFrame (Answers a) (heard_as a)
-can_be_said (Request wake_up family slots) ok = λ _ _ _ x y z. to-request x y z
-can_be_said (SlotMarker slot) ok = λ _ _ _ x y z. to-marker x y z
+can_be_said (Request wake_up family slots) ok = λ _ _ _ x y z. to_request x y z
+can_be_said (SlotMarker slot) ok = λ _ _ _ x y z. to_marker x y z
 can_be_said (Attrib serial cid inf) ok =
     let low = leb-true cid 15 (and_parts _ _ ok).0 in
     let own : cid % 16 ≡ cid = omega arith in
     rw own to_attrib
 can_be_said (Halt serial) ok = to_halt
-can_be_said (Read cid page) ok = (λ _ x. to_read x, λ _ x. read-refused x)
-can_be_said (Write cid page bytes) ok = (to_write, λ _ x. write-refused x)
-can_be_said (Lock cid locks) ok = (to_lock, λ _ x. lock-refused x)
-can_be_said (CheckPassword cid password) ok = (to_check, λ _ x. check-refused x)
+can_be_said (Read cid page) ok = (λ _ x. to_read x, λ _ x. read_refused x)
+can_be_said (Write cid page bytes) ok = (to_write, λ _ x. write_refused x)
+can_be_said (Lock cid locks) ok = (to_lock, λ _ x. lock_refused x)
+can_be_said (CheckPassword cid password) ok = (to_check, λ _ x. check_refused x)
 can_be_said (Deselect cid) ok = to_deselect
-can_be_said (Count cid signature) ok = (to_count, λ _ x. count-refused x)
+can_be_said (Count cid signature) ok = (to_count, λ _ x. count_refused x)
 
 -- a kind that says to a frame only what can be said to it is judged exactly
 module _ {H : Type 0} (obeys : Op → ℕ → List ℕ → Meaning Shown H → Reaction (Meaning Shown H)) (m : Meaning Shown H) where
@@ -51,9 +51,9 @@ module _ {H : Type 0} (obeys : Op → ℕ → List ℕ → Meaning Shown H → R
 pub judges_exactly : JudgesExactly
 judges_exactly =
     record {
-      pump = λ m sized. judged-exactly pump_obeys m (λ P. pump-says P m sized);
-      gauge = λ m sized. judged-exactly gauge_obeys m (λ P. gauge-says P m sized);
-      every = λ a s ok answers. judged-back answers ok;
+      pump = λ m sized. judged_exactly pump_obeys m (λ P. pump_says P m sized);
+      gauge = λ m sized. judged_exactly gauge_obeys m (λ P. gauge_says P m sized);
+      every = λ a s ok answers. judged_back answers ok;
       apart = λ a sized ok s t first second same.
           let one = judged_back first ok in
           let two = judged_back second ok in

@@ -88,8 +88,8 @@ some_said (Attrib serial cid inf) n t = said_by_lem (Attrib serial cid inf) n 3 
 some_said (Halt serial) n t = said_by_lem (Halt serial) n 3 Acknowledged to_halt refl t
 some_said (Read cid page) n t =
     ⊎_elim
-    (λ e. said-by (Read cid page) n 12 (Page (replicate 8 0)) (to_read refl) refl e)
-    (λ e. said-by (Read cid page) n 4 (Refused 1) (read_refused refl) refl e)
+    (λ e. said_by_lem (Read cid page) n 12 (Page (replicate 8 0)) (to_read refl) refl e)
+    (λ e. said_by_lem (Read cid page) n 4 (Refused 1) (read_refused refl) refl e)
     (or_cases (eqb n 12) (eqb n 4) t)
 some_said (Write cid page bytes) n t = said_by_lem (Write cid page bytes) n 4 Acknowledged to_write refl t
 some_said (Lock cid locks) n t = said_by_lem (Lock cid locks) n 4 Acknowledged to_lock refl t
@@ -286,7 +286,7 @@ read_bodied cid page body s t e =
     page_bodied cid page body s ten (sym (cond-true (eqb (length body) 10) _ _ (eq-eqb (length body) 10 ten)) ∙ e))
     (λ (f : eqb (length body + 2) 4 ≡ true).
     let k = eqb-true (length body + 2) 4 f in
-    data_bodied (Read cid page) body s (head_of op.Read cid) false true (λ x. absurd (false≢true x)) (λ x code one. read-refused one) refl (omega arith)
+    data_bodied (Read cid page) body s (head_of op.Read cid) false true (λ x. absurd (false≢true x)) (λ x code one. read_refused one) refl (omega arith)
     (sym (cond-false (eqb (length body) 10) _ _ (ne_eqb (length body) 10 (λ x. omega arith))) ∙ e))
     (or_cases (eqb (length body + 2) 12) (eqb (length body + 2) 4) t)
 
@@ -295,21 +295,21 @@ less_two body n t = let k = eqb-true (length body + 2) (n + 2) t in omega arith
 
 bodied : (a : Asked) (body : List ℕ) (s : Says) → fits a (length body + 2) ≡ true → reads a body ≡ Ok s → Bodied a body s
 bodied (Request wake_up family slots) body s t e =
-    answer_bodied (Request wake_up family slots) body s (λ x y z. to-request) (less_two body 12 t) e
-bodied (SlotMarker slot) body s t e = answer_bodied (SlotMarker slot) body s (λ x y z. to-marker) (less_two body 12 t) e
+    answer_bodied (Request wake_up family slots) body s (λ x y z. to_request) (less_two body 12 t) e
+bodied (SlotMarker slot) body s t e = answer_bodied (SlotMarker slot) body s (λ x y z. to_marker) (less_two body 12 t) e
 bodied (Attrib serial cid inf) body s t e = byte_bodied (Attrib serial cid inf) body s cid (Card cid) to_attrib refl (less_two body 1 t) e
 bodied (Halt serial) body s t e = byte_bodied (Halt serial) body s 0x00 Acknowledged to_halt refl (less_two body 1 t) e
 bodied (Read cid page) body s t e = read_bodied cid page body s t e
 bodied (Write cid page bytes) body s t e =
-    data_bodied (Write cid page bytes) body s (head_of op.Write cid) true true (λ x. to_write) (λ x code one. write-refused one) refl (less_two body 2 t) e
+    data_bodied (Write cid page bytes) body s (head_of op.Write cid) true true (λ x. to_write) (λ x code one. write_refused one) refl (less_two body 2 t) e
 bodied (Lock cid locks) body s t e =
-    data_bodied (Lock cid locks) body s (head_of op.Lock cid) true true (λ x. to-lock) (λ x code one. lock-refused one) refl (less_two body 2 t) e
+    data_bodied (Lock cid locks) body s (head_of op.Lock cid) true true (λ x. to_lock) (λ x code one. lock_refused one) refl (less_two body 2 t) e
 bodied (CheckPassword cid password) body s t e =
-    data_bodied (CheckPassword cid password) body s (head_of op.CheckPassword cid) true true (λ x. to-check) (λ x code one. check-refused one) refl (less_two body 2 t) e
+    data_bodied (CheckPassword cid password) body s (head_of op.CheckPassword cid) true true (λ x. to_check) (λ x code one. check_refused one) refl (less_two body 2 t) e
 bodied (Deselect cid) body s t e =
-    data_bodied (Deselect cid) body s (head_of op.Deselect cid) true false (λ x. to-deselect) (λ x code one. absurd (false≢true x)) refl (less_two body 2 t) e
+    data_bodied (Deselect cid) body s (head_of op.Deselect cid) true false (λ x. to_deselect) (λ x code one. absurd (false≢true x)) refl (less_two body 2 t) e
 bodied (Count cid signature) body s t e =
-    data_bodied (Count cid signature) body s (head_of op.Count cid) true true (λ x. to-count) (λ x code one. count-refused one) refl (less_two body 2 t) e
+    data_bodied (Count cid signature) body s (head_of op.Count cid) true true (λ x. to_count) (λ x code one. count_refused one) refl (less_two body 2 t) e
 
 -- a sound frame is its body, sealed
 sound_sealed : (frame : List ℕ) → sound frame ≡ true → frame ≡ sealed (body_of frame)
@@ -367,10 +367,10 @@ pub judges_only : JudgesOnly
 judges_only =
     record {
       brought = brought;
-      whole = λ a bytes s ok other e. sound-sealed bytes (checked a bytes s e) ∙ ap sealed ((body_read a bytes s e).whole ok other);
+      whole = λ a bytes s ok other e. sound_sealed bytes (checked a bytes s e) ∙ ap sealed ((body_read a bytes s e).whole ok other);
       low_nibble = λ a bytes e. done a bytes Acknowledged e refl;
       high_nibble = λ a head status answers. high_nibble answers head status;
       wrong_length = wrong_length;
       unsound = λ a bytes s answers long wrong. at_length a bytes s false answers long wrong;
-      unexpected = λ a bytes s why answers long right e. not-read a (body_of bytes) why (sym (at_length a bytes s true answers long right) ∙ e);
+      unexpected = λ a bytes s why answers long right e. not_read a (body_of bytes) why (sym (at_length a bytes s true answers long right) ∙ e);
     }

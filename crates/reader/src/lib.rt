@@ -1,4 +1,6 @@
 // The reader's half: every command built, every reply read.
+#![tactic(auto)]
+
 pub mod commands;
 pub mod judging;
 pub mod making;

@@ -1,4 +1,6 @@
 // Why a call is refused: one enum for the whole repository. A refused call changes nothing.
+#![tactic(auto)]
+
 ghost use Rattle.std.specs.Prelude.{◌≡◌};
 ghost use Rattle.refusals.specs.Numbers.{number};
 

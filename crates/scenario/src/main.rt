@@ -1,4 +1,6 @@
 // A fixed story before a tray, told action by action in plain words.
+#![tactic(auto)]
+
 mod calls;
 mod failure;
 mod making;

@@ -47,7 +47,7 @@ fn put_request<W: fmt::Write>(
     family: u8,
     slots: u8,
 ) -> fmt::Result
-    ensures { WritesOnOk write_str_gives f.old result (request_words wake_up family slots) f.new }
+    ensures { WritesOnOk W.write_str_gives f.old result (request_words wake_up family slots) f.new }
 {
     let name = if wake_up { "wake-up" } else { "request" };
     let code = [family];
@@ -57,14 +57,14 @@ fn put_request<W: fmt::Write>(
 }
 
 fn put_attrib<W: fmt::Write>(f: &mut fmt::Formatter<W>, serial: Serial, cid: u8) -> fmt::Result
-    ensures { WritesOnOk write_str_gives f.old result (attrib_words serial cid) f.new }
+    ensures { WritesOnOk W.write_str_gives f.old result (attrib_words serial cid) f.new }
 {
     let serial = Hex(&serial);
     write!(f, "ATTRIB {serial}, card {cid}")
 }
 
 fn put_halt<W: fmt::Write>(f: &mut fmt::Formatter<W>, serial: Serial) -> fmt::Result
-    ensures { WritesOnOk write_str_gives f.old result (halt_words serial) f.new }
+    ensures { WritesOnOk W.write_str_gives f.old result (halt_words serial) f.new }
 {
     let serial = Hex(&serial);
     write!(f, "HLTB {serial}")
@@ -76,28 +76,28 @@ fn put_write<W: fmt::Write>(
     page: u8,
     bytes: [u8; 8],
 ) -> fmt::Result
-    ensures { WritesOnOk write_str_gives f.old result (write_words cid page bytes) f.new }
+    ensures { WritesOnOk W.write_str_gives f.old result (write_words cid page bytes) f.new }
 {
     let bytes = Hex(&bytes);
     write!(f, "WRITE card {cid}, page {page}, data {bytes}")
 }
 
 fn put_lock<W: fmt::Write>(f: &mut fmt::Formatter<W>, cid: u8, locks: [u8; 4]) -> fmt::Result
-    ensures { WritesOnOk write_str_gives f.old result (lock_words cid locks) f.new }
+    ensures { WritesOnOk W.write_str_gives f.old result (lock_words cid locks) f.new }
 {
     let locks = Hex(&locks);
     write!(f, "LOCK card {cid}, lock bits {locks}")
 }
 
 fn put_check<W: fmt::Write>(f: &mut fmt::Formatter<W>, cid: u8, password: [u8; 8]) -> fmt::Result
-    ensures { WritesOnOk write_str_gives f.old result (check_words cid password) f.new }
+    ensures { WritesOnOk W.write_str_gives f.old result (check_words cid password) f.new }
 {
     let password = Hex(&password);
     write!(f, "CHECK PASSWORD card {cid}, password {password}")
 }
 
 fn put_count<W: fmt::Write>(f: &mut fmt::Formatter<W>, cid: u8, signature: [u8; 6]) -> fmt::Result
-    ensures { WritesOnOk write_str_gives f.old result (count_words cid signature) f.new }
+    ensures { WritesOnOk W.write_str_gives f.old result (count_words cid signature) f.new }
 {
     let signature = Hex(&signature);
     write!(f, "COUNT card {cid}, signature {signature}")
@@ -120,21 +120,21 @@ impl fmt::Display for Heard {
 }
 
 fn put_answer<W: fmt::Write>(f: &mut fmt::Formatter<W>, serial: Serial) -> fmt::Result
-    ensures { WritesOnOk write_str_gives f.old result (answer_words serial) f.new }
+    ensures { WritesOnOk W.write_str_gives f.old result (answer_words serial) f.new }
 {
     let serial = Hex(&serial);
     write!(f, "answer from {serial}")
 }
 
 fn put_page<W: fmt::Write>(f: &mut fmt::Formatter<W>, bytes: [u8; 8]) -> fmt::Result
-    ensures { WritesOnOk write_str_gives f.old result (page_words bytes) f.new }
+    ensures { WritesOnOk W.write_str_gives f.old result (page_words bytes) f.new }
 {
     let bytes = Hex(&bytes);
     write!(f, "page {bytes}")
 }
 
 fn put_refused<W: fmt::Write>(f: &mut fmt::Formatter<W>, code: u8) -> fmt::Result
-    ensures { WritesOnOk write_str_gives f.old result (refused_words code) f.new }
+    ensures { WritesOnOk W.write_str_gives f.old result (refused_words code) f.new }
 {
     let bytes = [code];
     let code = Hex(&bytes);

@@ -164,7 +164,7 @@ lines_play number stage [] = done stage
 lines_play number stage (last ∷ []) = last_plays number stage last
 lines_play number stage (line ∷ next ∷ more) =
     long_plays (leb (length line) 79) stage (names_in (line ∷ next ∷ more)) (calls_in number (line ∷ next ∷ more)) _ number
-    (says_plays number (names_in (next ∷ more)) (calls_in (number + 1) (next ∷ more)) (λ after. lines_run (number + 1) after (next ∷ more)) (λ after. lines-play (number + 1) after (next ∷ more)) (line_says line) stage)
+    (says_plays number (names_in (next ∷ more)) (calls_in (number + 1) (next ∷ more)) (λ after. lines_run (number + 1) after (next ∷ more)) (λ after. lines_play (number + 1) after (next ∷ more)) (line_says line) stage)
 
 sheet_at : (b : Bool) (stage : Stage) (names : List Names) (calls : List CallLine) (run : Run) → Plays stage names calls run → Plays stage names calls (cond b run (stopped_at 0 12))
 sheet_at true stage names calls run p = p

@@ -1,4 +1,6 @@
 // Sheets: lines that name tags, set their pages and make calls of a tray, and the text that a run of one prints.
+#![tactic(auto)]
+
 pub mod bytes;
 mod calling;
 mod drafting;

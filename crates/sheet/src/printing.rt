@@ -47,7 +47,7 @@ impl fmt::Display for Answered<'_> {
 
 // A reply at the front of a buffer.
 fn put_reply<W: fmt::Write>(f: &mut fmt::Formatter<W>, buffer: &[u8], len: usize) -> fmt::Result
-    ensures { WritesOnOk write_str_gives f.old result (text (codes "reply," ∷ hex_text (take len buffer.now) ∷ [])) f.new }
+    ensures { WritesOnOk W.write_str_gives f.old result (text (codes "reply," ∷ hex_text (take len buffer.now) ∷ [])) f.new }
 {
     let end = len.min(buffer.len());
     let reply = Hex(&buffer[0..end]);

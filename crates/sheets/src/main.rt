@@ -1,4 +1,6 @@
 // Runs the example sheets and compares what each prints with the text that stands beside it.
+#![tactic(auto)]
+
 use console::streams::{Failed, stop};
 use sheet::running::run_sheet;
 use std::fs;

@@ -61,7 +61,7 @@ module _ (bytes page : List ℕ) (eight : length page ≡ 8) where
   pub firmer_locked : Firmer page (locked_by bytes page)
   firmer_locked =
       record {
-        locks = λ i below set. locked-byte (i / 8) (i % 8) (omega arith) set;
+        locks = λ i below set. locked_byte (i / 8) (i % 8) (omega arith) set;
         first = rw (get_or-append_right (take 4 page) _ 4 4 0 four (omega arith)) (or_even (get_or page 4 0) (get_or bytes 4 0));
         serial = take_at (take 4 page) _ 4 four;
       }

@@ -66,7 +66,7 @@ module _ (m : PumpMeaning) (good : Good m) where
               };
           firmer = firmer;
           pages = λ i under set.
-              replaced-elsewhere m good.sized j below page eight i under
+              replaced_elsewhere m good.sized j below page eight i under
               (λ (e : i ≡ j). let unset : lock_bit i (page_of 0 m) ≡ 0 = ap (λ (n : ℕ). lock_bit n (page_of 0 m)) e ∙ clear in omega arith);
           sum = ap counter_in second ∙ sum;
         }

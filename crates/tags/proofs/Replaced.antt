@@ -32,7 +32,7 @@ module _ (j : ℕ) (page memory : List ℕ) (eight : length page ≡ 8) (fits : 
 
   pub page_kept : (i : ℕ) → (i ≡ j → ⊥) → page_at i (put_page j page memory) ≡ page_at i memory
   page_kept i apart =
-      ⊎_elim (λ (l : i < j). page-before i l) (λ (g : j ≤ i). page-behind i (omega arith)) (cases_lt i j)
+      ⊎_elim (λ (l : i < j). page_before i l) (λ (g : j ≤ i). page_behind i (omega arith)) (cases_lt i j)
 
 -- pages of a tag
 pub page_long : (m : PumpMeaning) → PumpSized m → (i : ℕ) → i < 32 → length (page_of i m) ≡ 8

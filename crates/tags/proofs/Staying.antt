@@ -34,7 +34,7 @@ drawn_on true slot = refl
 drawn_on false slot = refl
 
 requested_on : (answer : Says) (n : ℕ) (link : Link) → OnIs (requested answer n link)
-requested_on answer n link = cond_both (eqb n 1) _ _ OnIs (λ _. refl) (λ _. drawn-on (eqb (drawn link.draw n).0 1) (drawn link.draw n).0)
+requested_on answer n link = cond_both (eqb n 1) _ _ OnIs (λ _. refl) (λ _. drawn_on (eqb (drawn link.draw n).0 1) (drawn link.draw n).0)
 
 marker_on : (answer : Says) (slot : ℕ) (link : Link) (s : State) → is_off link.state ≡ false → OnIs (hears_marker answer slot link s)
 marker_on answer slot link Off h = h
@@ -48,7 +48,7 @@ marker_on answer slot link Active h = h
 link_on : (serial application : List ℕ) (frame : Heard) (link : Link) → is_off link.state ≡ false → OnIs (link_hears serial application frame link)
 link_on serial application (Request family wake_up slots) link h =
     cond_both (listens link.state wake_up) _ _ OnIs
-    (λ _. cond_both (leb family 1) _ _ OnIs (λ _. requested-on (Answer serial application protocol_info) (slot_count slots) link) (λ _. dismissed-on link.state))
+    (λ _. cond_both (leb family 1) _ _ OnIs (λ _. requested_on (Answer serial application protocol_info) (slot_count slots) link) (λ _. dismissed_on link.state))
     (λ _. h)
 link_on serial application (SlotMarker slot) link h = marker_on (Answer serial application protocol_info) slot link link.state h
 link_on serial application (Attrib named params inf) link h = cond_both (is_declared link.state && bytes_eq named serial) _ _ OnIs (λ _. refl) (λ _. h)
@@ -84,7 +84,7 @@ command_on : (op : Op) (cid address : ℕ) (bytes : List ℕ) (m : PumpMeaning) 
 command_on op cid address bytes m =
     ⊎_elim
     (λ (o : is_off_tag m.shown ≡ true). ap (λ (b : Bool). is_off_tag (cond b (pump_obeys op (address % 32) bytes m) (unmoved m)).after.shown) (off_answers cid m.shown.link o))
-    (λ (o : is_off_tag m.shown ≡ false). cond_both (answers_to cid m.shown.link) _ _ (λ (r : Reaction PumpMeaning). AsOn m r.after) (λ _. obeys-on op (address % 32) bytes m o) (λ _. refl))
+    (λ (o : is_off_tag m.shown ≡ false). cond_both (answers_to cid m.shown.link) _ _ (λ (r : Reaction PumpMeaning). AsOn m r.after) (λ _. obeys_on op (address % 32) bytes m o) (λ _. refl))
     (cases_Bool (is_off_tag m.shown))
 
 step_on : (o : Option Heard) (m : PumpMeaning) → AsOn m (answered (reacts_by pump_obeys) m o).after

@@ -49,5 +49,5 @@ module _ {H : Type 0} where
           losing = λ m n alike. record { alike = ap (λ (s : Shown). record { link = loses_link s.link; pages = s.pages }) alike; left = refl; right = refl };
           gaining = of_twins (λ m n. Twins ((acts_by obeys).gains m) ((acts_by obeys).gains n)) (λ s h k. twins _ h k);
           hearing = hearing_by (reacts_by obeys) (reacts blind);
-          silent = λ frame m off. silent-by (reacts_by obeys) m (still m off) (heard frame);
+          silent = λ frame m off. silent_by (reacts_by obeys) m (still m off) (heard frame);
         }

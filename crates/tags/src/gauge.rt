@@ -131,7 +131,7 @@ impl Kind for GaugeTag {
 
     ghost off = { is_off_tag };
 
-    ghost duties = { gauge-duties };
+    ghost duties = { gauge_duties };
 
     fn gain_power(&mut self) {
         self.link.gain_power();

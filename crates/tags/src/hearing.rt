@@ -33,7 +33,7 @@ pub trait React {
 
 // Hears a frame in place. The reply goes to the front of the lent buffer.
 pub fn hear_frame<T: React>(tag: &mut T, frame: &Received<'_>, reply: &mut [u8; 16]) -> Hearing
-    ensures { Told (hears_by reacts (on_air frame.now) (means tag.old)) (means tag.new) reply.old reply.new result.len result.accepted }
+    ensures { Told (hears_by T.reacts (on_air frame.now) (T.means tag.old)) (T.means tag.new) reply.old reply.new result.len result.accepted }
 {
     let Some(told) = frame.told() else {
         return Hearing {

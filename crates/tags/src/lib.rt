@@ -1,4 +1,6 @@
 // Tags: the interface of a kind with its duties, the pump tag and the gauge tag.
+#![tactic(auto)]
+
 pub mod edges;
 pub mod gauge;
 pub mod hearing;

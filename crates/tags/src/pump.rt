@@ -275,7 +275,7 @@ impl Kind for PumpTag {
 
     ghost off = { is_off_tag };
 
-    ghost duties = { pump-duties };
+    ghost duties = { pump_duties };
 
     fn gain_power(&mut self) {
         self.link.gain_power();

@@ -1,4 +1,6 @@
 // Runs a sheet: tags are named and filled, a tray is loaded with them, and calls are made of it.
+#![tactic(auto)]
+
 mod faults;
 mod options;
 

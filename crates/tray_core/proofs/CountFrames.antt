@@ -59,7 +59,7 @@ pub eight_heard : (frame : List ℕ) → Eight (heard frame)
 eight_heard frame =
     of_heard Eight tt eight_link frame
     (of_body Eight tt eight_link (body_of frame)
-    (λ ten. eight-command _ _ (drop 2 (body_of frame)) _ (length-drop 2 (body_of frame) ∙ ap (λ (n : ℕ). n - 2) ten)))
+    (λ ten. eight_command _ _ (drop 2 (body_of frame)) _ (length-drop 2 (body_of frame) ∙ ap (λ (n : ℕ). n - 2) ten)))
 
 -- a sealed body that has not ten bytes, or not the head of a COUNT, carries no COUNT
 abbrev NoCount : Option Heard → Type 0
@@ -91,4 +91,4 @@ pub no_count : (body : List ℕ) → (length body ≡ 10 → at 0 body / 16 ≡ 
 no_count body other =
     of_heard NoCount refl plain_link (sealed body)
     (subst (λ (b : List ℕ). NoCount (in_body b)) (sym (body_sealed body))
-    (of_body NoCount refl plain_link body (λ ten. plain-command _ _ _ (at 0 body / 16) (other ten))))
+    (of_body NoCount refl plain_link body (λ ten. plain_command _ _ _ (at 0 body / 16) (other ten))))

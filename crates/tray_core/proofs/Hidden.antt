@@ -122,7 +122,7 @@ module _ {SF HF SB HB : Type 0} {off_f : SF → Bool} {off_b : SB → Bool} (F :
       subst
       (λ (x : Sounds). NoneInScript F B w (next x) u' → Agree w (played F B s t') (played F B (next x) u') (after_play F B s t') (after_play F B (next x) u'))
       heard
-      (λ none. near-script w (next (sounds_of F B frame t)) t' u' noneT.1 none nearer)
+      (λ none. near_script w (next (sounds_of F B frame t)) t' u' noneT.1 none nearer)
       noneU.1
 
   -- a call shows the same

@@ -32,7 +32,7 @@ mild_heard (Clash n) next mild c = mild _
 mild_slots : (frames : List (List ℕ)) → AllMild frames → (next : Tally → Script Tally) → ((c : Tally) → Mild (next c)) → (c : Tally) → Mild (slots frames next c)
 mild_slots [] all next mild c = mild c
 mild_slots (frame ∷ frames) all next mild c =
-    (all.0, λ s. mild-heard s (slots frames next) (mild_slots frames all.1 next mild) _)
+    (all.0, λ s. mild_heard s (slots frames next) (mild_slots frames all.1 next mild) _)
 
 -- rounds
 mild_markers : (ns : List ℕ) → AllMild (map (λ n. frame_for (SlotMarker n)) ns)
@@ -47,7 +47,7 @@ unfolding rounds
 mild_rounds zero wake_up c = tt
 mild_rounds (suc n) wake_up c =
     mild_slots (round_frames wake_up) (mild_frames wake_up) _
-    (λ d. cond_both d.silent _ _ Mild (λ _. tt) (λ _. mild-rounds n false d)) (next_round c)
+    (λ d. cond_both d.silent _ _ Mild (λ _. tt) (λ _. mild_rounds n false d)) (next_round c)
 
 pub mild_stock : Mild stocktaking
 unfolding stocktaking

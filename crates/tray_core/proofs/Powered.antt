@@ -114,21 +114,21 @@ module _ {S H : Type 0} where
   front_lights : (B : Behaviour S H) → Lights pump_acts B front
   front_lights B =
       record {
-        on = λ t lit. cond_both t.field _ _ (LitTray pump_acts B front) (λ _. lit) (λ e. lit-map false true pump_acts.gains gains_lit t.front (subst (λ (f : Bool). Lit f t.front) e lit));
-        off = λ t lit. cond_both t.field _ _ (LitTray pump_acts B front) (λ e. lit-map true false pump_acts.loses loses_lit t.front (subst (λ (f : Bool). Lit f t.front) e lit)) (λ _. lit);
-        placing = λ n t lit. cond_both (in_front n t) _ _ (LitTray pump_acts B front) (λ _. lit-change t.field (placed pump_acts t.field) (placed_lit t.field) n t.front lit) (λ _. lit);
-        lifting = λ n t lit. cond_both (in_front n t) _ _ (LitTray pump_acts B front) (λ _. lit-change t.field (lifted pump_acts t.field) (lifted_lit t.field) n t.front lit) (λ _. lit);
-        hears = λ frame t lit. cond_both t.field _ _ (LitTray pump_acts B front) (λ _. lit-map t.field t.field (hearing pump_acts frame) (hears_lit t.field frame) t.front lit) (λ _. lit);
+        on = λ t lit. cond_both t.field _ _ (LitTray pump_acts B front) (λ _. lit) (λ e. lit_map false true pump_acts.gains gains_lit t.front (subst (λ (f : Bool). Lit f t.front) e lit));
+        off = λ t lit. cond_both t.field _ _ (LitTray pump_acts B front) (λ e. lit_map true false pump_acts.loses loses_lit t.front (subst (λ (f : Bool). Lit f t.front) e lit)) (λ _. lit);
+        placing = λ n t lit. cond_both (in_front n t) _ _ (LitTray pump_acts B front) (λ _. lit_change t.field (placed pump_acts t.field) (placed_lit t.field) n t.front lit) (λ _. lit);
+        lifting = λ n t lit. cond_both (in_front n t) _ _ (LitTray pump_acts B front) (λ _. lit_change t.field (lifted pump_acts t.field) (lifted_lit t.field) n t.front lit) (λ _. lit);
+        hears = λ frame t lit. cond_both t.field _ _ (LitTray pump_acts B front) (λ _. lit_map t.field t.field (hearing pump_acts frame) (hears_lit t.field frame) t.front lit) (λ _. lit);
       }
 
   back_lights : (F : Behaviour S H) → Lights F pump_acts back
   back_lights F =
       record {
-        on = λ t lit. cond_both t.field _ _ (LitTray F pump_acts back) (λ _. lit) (λ e. lit-map false true pump_acts.gains gains_lit t.back (subst (λ (f : Bool). Lit f t.back) e lit));
-        off = λ t lit. cond_both t.field _ _ (LitTray F pump_acts back) (λ e. lit-map true false pump_acts.loses loses_lit t.back (subst (λ (f : Bool). Lit f t.back) e lit)) (λ _. lit);
-        placing = λ n t lit. cond_both (in_front n t) _ _ (LitTray F pump_acts back) (λ _. lit) (λ _. lit-change t.field (placed pump_acts t.field) (placed_lit t.field) (n - 32) t.back lit);
-        lifting = λ n t lit. cond_both (in_front n t) _ _ (LitTray F pump_acts back) (λ _. lit) (λ _. lit-change t.field (lifted pump_acts t.field) (lifted_lit t.field) (n - 32) t.back lit);
-        hears = λ frame t lit. cond_both t.field _ _ (LitTray F pump_acts back) (λ _. lit-map t.field t.field (hearing pump_acts frame) (hears_lit t.field frame) t.back lit) (λ _. lit);
+        on = λ t lit. cond_both t.field _ _ (LitTray F pump_acts back) (λ _. lit) (λ e. lit_map false true pump_acts.gains gains_lit t.back (subst (λ (f : Bool). Lit f t.back) e lit));
+        off = λ t lit. cond_both t.field _ _ (LitTray F pump_acts back) (λ e. lit_map true false pump_acts.loses loses_lit t.back (subst (λ (f : Bool). Lit f t.back) e lit)) (λ _. lit);
+        placing = λ n t lit. cond_both (in_front n t) _ _ (LitTray F pump_acts back) (λ _. lit) (λ _. lit_change t.field (placed pump_acts t.field) (placed_lit t.field) (n - 32) t.back lit);
+        lifting = λ n t lit. cond_both (in_front n t) _ _ (LitTray F pump_acts back) (λ _. lit) (λ _. lit_change t.field (lifted pump_acts t.field) (lifted_lit t.field) (n - 32) t.back lit);
+        hears = λ frame t lit. cond_both t.field _ _ (LitTray F pump_acts back) (λ _. lit_map t.field t.field (hearing pump_acts frame) (hears_lit t.field frame) t.back lit) (λ _. lit);
       }
 
   pub power_front : (B : Behaviour S H) → PowerFront B

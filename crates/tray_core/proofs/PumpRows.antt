@@ -70,13 +70,13 @@ pub quiet_placed : (j : ℕ) (field : Bool) (r : Pumps) → Quiet r (change_at j
 quiet_placed j field =
     quiet_change j (placed pump_acts field)
     (λ p good. cond_both p.here _ _ (λ (q : Pump). Moves p.tag q.tag 0) (λ _. still _ good)
-    (λ _. cond_both field _ _ (λ m. Moves p.tag m 0) (λ _. gains-moves _ good) (λ _. still _ good)))
+    (λ _. cond_both field _ _ (λ m. Moves p.tag m 0) (λ _. gains_moves _ good) (λ _. still _ good)))
 
 pub quiet_lifted : (j : ℕ) (field : Bool) (r : Pumps) → Quiet r (change_at j (lifted pump_acts field) r)
 quiet_lifted j field =
     quiet_change j (lifted pump_acts field)
     (λ p good. cond_both p.here _ _ (λ (q : Pump). Moves p.tag q.tag 0)
-    (λ _. cond_both field _ _ (λ m. Moves p.tag m 0) (λ _. loses-moves _ good) (λ _. still _ good))
+    (λ _. cond_both field _ _ (λ m. Moves p.tag m 0) (λ _. loses_moves _ good) (λ _. still _ good))
     (λ _. still _ good))
 
 -- a frame in the field, and out of it

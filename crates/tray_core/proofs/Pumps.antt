@@ -41,16 +41,16 @@ module _ (m : PumpMeaning) (good : Good m) where
       asked false m.opened 0x41 _
       (λ _. asked false (by_write (writing_of page)) 0x21 _
       (λ may. asked false (unlocked page (page_of 0 m)) 0x11 _
-      (λ clear. written-moves m good page bytes below (not_written page 0 refl may) (not_written page 2 refl may) eight (eqb-true _ _ clear))))
-  obeyed Lock cid address bytes page below eight = asked false m.opened 0x41 _ (λ _. locked-moves m good bytes)
+      (λ clear. written_moves m good page bytes below (not_written page 0 refl may) (not_written page 2 refl may) eight (eqb-true _ _ clear))))
+  obeyed Lock cid address bytes page below eight = asked false m.opened 0x41 _ (λ _. locked_moves m good bytes)
   obeyed CheckPassword cid address bytes page below eight =
-      cond_both (passes bytes m) _ _ (Fair false) (λ _. moves-same m m.shown.link true good) (λ _. moves-same m m.shown.link false good)
+      cond_both (passes bytes m) _ _ (Fair false) (λ _. moves_same m m.shown.link true good) (λ _. moves_same m m.shown.link false good)
   obeyed Deselect cid address bytes page below eight = moves_same m _ m.opened good
   obeyed Count cid address bytes page below eight =
       asked true m.opened 0x41 _
       (λ _. asked true (unlocked 2 (page_of 0 m)) 0x11 _
       (λ clear. asked true (ltb (counter_in (page_of 2 m)) 0x8000) 0x21 _
-      (λ room. counted-moves m good bytes eight (eqb-true _ _ clear) (ltb-true _ _ room))))
+      (λ room. counted_moves m good bytes eight (eqb-true _ _ clear) (ltb-true _ _ room))))
 
   answers : (o : Option Heard) → Eight o
       → Moves m (answered (reacts_by pump_obeys) m o).after (cond (is_count o && is_ack (says_at (reacts_by pump_obeys) m o)) 1 0)

@@ -89,7 +89,7 @@ module _ (P : Tally → Type 0) (r : ℕ) where
   slots_ends [] k n is next after c a =
       after c (record { rounds = a.rounds; least = omega arith; most = omega arith; clashes = omega arith; once = a.once; few = omega arith })
   slots_ends (frame ∷ frames) k n is next after c a =
-      slot_ends k (slots frames next) (λ d b. slots-ends frames (k + 1) n (omega arith) next after d b) c a
+      slot_ends k (slots frames next) (λ d b. slots_ends frames (k + 1) n (omega arith) next after d b) c a
 
 -- a round ends the stock, or another follows
 last_or_not : (silent : Bool) (d : Tally) (s : Script Tally) → Fair d → Ends Fair s → Ends Fair (cond silent (done d) s)
@@ -103,7 +103,7 @@ rounds_ends zero wake_up c b =
 rounds_ends (suc n) wake_up c b =
     slots_ends Fair (c.rounds + 1) (round_frames wake_up) 0 16 refl (λ d. cond d.silent (done d) (rounds n false d))
     (λ d a.
-    last-or-not d.silent d (rounds n false d)
+    last_or_not d.silent d (rounds n false d)
     (record { some_round = omega arith; most_rounds = omega arith; least_frames = omega arith; most_frames = omega arith; most_clashes = a.clashes; once = a.once; few = omega arith })
     (rounds_ends n false d (record { rounds = omega arith; least = omega arith; most = omega arith; clashes = a.clashes; once = a.once; few = omega arith })))
     (next_round c)

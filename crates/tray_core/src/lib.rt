@@ -1,4 +1,6 @@
 // The tray: two rows of tags before a reader, and the calls that it takes.
+#![tactic(auto)]
+
 pub mod calls;
 pub mod frames;
 pub mod handling;

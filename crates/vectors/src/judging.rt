@@ -35,7 +35,7 @@ impl fmt::Display for Verdict {
 
 // The check bytes that were found in place of those given.
 fn put_other<W: fmt::Write>(f: &mut fmt::Formatter<W>, got: [u8; 2]) -> fmt::Result
-    ensures { WritesOnOk write_str_gives f.old result (other_words got) f.new }
+    ensures { WritesOnOk W.write_str_gives f.old result (other_words got) f.new }
 {
     let got = Hex(&got);
     write!(f, "wrong: got {got}")

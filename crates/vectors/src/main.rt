@@ -1,4 +1,6 @@
 // Runs worked examples of check bytes: the first three are ISO/IEC 14443-3's own, the others frames of the tag's data sheet.
+#![tactic(auto)]
+
 mod judging;
 
 use hex_pairs::Hex;

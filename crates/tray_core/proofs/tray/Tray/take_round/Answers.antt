@@ -12,7 +12,7 @@ loop-i-preserved g c =
       step.fits,
       goes_more c.loop-i.i (begun c.args.progress) c.loop-i.p c.take_slot-p.result c.args.list.now c.loop-i.list c.take_slot-p.new.list inv.1 step.goes,
       λ next.
-          one-slot g.F.Kind.acts g.B.Kind.acts (round_frames c.args.wake_up) _ c.loop-i.i next
+          one_slot g.F.Kind.acts g.B.Kind.acts (round_frames c.args.wake_up) _ c.loop-i.i next
           (tally_of (begun c.args.progress) c.args.list.now) (tally_of c.loop-i.p c.loop-i.list) (tally_of c.take_slot-p.result c.take_slot-p.new.list)
           (model_of g.F.Kind.means g.B.Kind.means c.args.self.now) (model_of g.F.Kind.means g.B.Kind.means c.loop-i.self) (model_of g.F.Kind.means g.B.Kind.means c.take_slot-p.new.self)
           below c.slot_frame.ensures (inv.2 next) step.plays,
@@ -28,7 +28,7 @@ returns g c =
       goes = subst (λ (k : ℕ). GoesOn k (begun c.args.progress) c.args.list.now c.loop-i.p c.loop-i.list) all inv.1;
       plays =
           λ next.
-          no-slot-left g.F.Kind.acts g.B.Kind.acts (round_frames c.args.wake_up) c.loop-i.i
+          no_slot_left g.F.Kind.acts g.B.Kind.acts (round_frames c.args.wake_up) c.loop-i.i
           (slots (round_frames c.args.wake_up) next (tally_of (begun c.args.progress) c.args.list.now)) next (tally_of c.loop-i.p c.loop-i.list)
           (model_of g.F.Kind.means g.B.Kind.means c.args.self.now) (model_of g.F.Kind.means g.B.Kind.means c.loop-i.self)
           past (inv.2 next);
