@@ -3,7 +3,7 @@ pub mod Walks
 pub mod Meets
 pub mod Lined
 pub mod Near
-pub mod Hidden
+pub mod HiddenPart
 pub mod CountFrames
 pub mod Pumps
 pub mod PumpRows

@@ -26,8 +26,8 @@ fn joined_by(heard: Sounds, reply: Message) -> Sounds
 // One tag hears a frame; its reply, if it has one, joins what was heard so far.
 pub(crate) fn tell_tag<K: Kind>(tag: &mut K, frame: &Received<'_>, heard: &mut Sounds)
     requires { how_many heard.old ≤ 64 }
-    ensures after { means tag.new ≡ hearing acts (on_air frame.now) (means tag.old) }
-    ensures sounds { sounds_in heard.new ≡ meet (sounds_in heard.old) (voice (acts.hears (on_air frame.now) (means tag.old)).reply) }
+    ensures after { K.means tag.new ≡ hearing K.acts (on_air frame.now) (K.means tag.old) }
+    ensures sounds { sounds_in heard.new ≡ meet (sounds_in heard.old) (voice (K.acts.hears (on_air frame.now) (K.means tag.old)).reply) }
     ensures count { how_many heard.new ≤ how_many heard.old + 1 }
 {
     let mut bytes = [0u8; 16];

@@ -18,8 +18,8 @@ pub(crate) fn hear_row<K: Kind>(
     before: Sounds,
 ) -> Sounds
     requires { (length tags.old ≤ 32) × (how_many before ≤ 32) }
-    ensures after { posts placed.now (map means tags.new) ≡ row_hears acts (on_air frame.now) (posts placed.now (map means tags.old)) }
-    ensures sounds { sounds_in result ≡ meet (sounds_in before) (row_sounds acts (on_air frame.now) (posts placed.now (map means tags.old))) }
+    ensures after { posts placed.now (map K.means tags.new) ≡ row_hears K.acts (on_air frame.now) (posts placed.now (map K.means tags.old)) }
+    ensures sounds { sounds_in result ≡ meet (sounds_in before) (row_sounds K.acts (on_air frame.now) (posts placed.now (map K.means tags.old))) }
     ensures count { how_many result ≤ how_many before + length tags.old }
 {
     let mut heard = before;
@@ -35,7 +35,7 @@ pub(crate) fn hear_row<K: Kind>(
 
 // A tag gains power, or loses it.
 fn power_tag<K: Kind>(tag: &mut K, on: bool)
-    ensures { means tag.new ≡ powers acts on (means tag.old) }
+    ensures { K.means tag.new ≡ powers K.acts on (K.means tag.old) }
 {
     if on {
         tag.gain_power();
@@ -47,7 +47,7 @@ fn power_tag<K: Kind>(tag: &mut K, on: bool)
 // Every tag on the tray gains power, or loses it.
 pub(crate) fn power_row<K: Kind>(tags: &mut [K], placed: &[bool; 32], on: bool)
     requires { length tags.old ≤ 32 }
-    ensures { posts placed.now (map means tags.new) ≡ row_powers acts on (posts placed.now (map means tags.old)) }
+    ensures { posts placed.now (map K.means tags.new) ≡ row_powers K.acts on (posts placed.now (map K.means tags.old)) }
 {
     for i in 0..tags.len() {
         if placed[i] {
@@ -68,7 +68,7 @@ pub(crate) fn move_at<K: Kind>(
     field: bool,
 )
     requires { (n < length tags.old) × (length tags.old ≤ 32) }
-    ensures { posts present.new (map means tags.new) ≡ change_at n (moved acts here field) (posts present.old (map means tags.old)) }
+    ensures { posts present.new (map K.means tags.new) ≡ change_at n (moved K.acts here field) (posts present.old (map K.means tags.old)) }
 {
     let mut tag = tags[n];
     let changes = field & (present[n] ^ here);

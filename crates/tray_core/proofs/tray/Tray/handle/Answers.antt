@@ -1,4 +1,4 @@
-use Rattle.tray_core.proofs.Hidden.{hiding}
+use Rattle.tray_core.proofs.HiddenPart.{hiding}
 use Rattle.tray_core.proofs.Locked.{locks_front, locks_back, counts_front_lem, counts_back_lem}
 use Rattle.tray_core.proofs.Powered.{power_front, power_back}
 use Rattle.tray_core.proofs.tray.Tray.handle.Goals as goal
