@@ -1,6 +1,10 @@
 // What a program reads and prints, and how it stops. No contract can say what is read or printed.
+ghost use Rattle.std.specs.Prelude.{◌≡◌, is_ok, if◌then◌else◌};
+ghost use Rattle.std.specs.Process.{exit_status};
+
 use std::fmt::Display;
 use std::io::Read;
+use std::process::ExitCode;
 use std::{fs, io};
 
 // The program stops with status 1, and has said why.
@@ -10,6 +14,16 @@ pub struct Failed;
 pub fn stop(rt: &HostRuntime, program: &str, why: impl Display + Drop) -> Failed {
     let _ = eprintln!(rt; "{program}: {why}");
     Failed
+}
+
+// The status that a program ends with: 0, or 1 where it failed.
+pub fn status(ended: Result<(), Failed>) -> ExitCode
+    ensures { exit_status result ≡ (if is_ok ended then 0 else 1) }
+{
+    match ended {
+        Ok(()) => ExitCode::SUCCESS,
+        Err(Failed) => ExitCode::FAILURE,
+    }
 }
 
 fn read_stdin(rt: &HostRuntime) -> io::Result<Vec<u8>> {

@@ -8,10 +8,11 @@ mod options;
 mod report;
 mod words;
 
-use console::streams::{Failed, print_all, read_input, stop};
+use console::streams::{Failed, print_all, read_input, status, stop};
 use decoding::decode_text;
 use options::{Word, word_of};
 use std::env;
+use std::process::ExitCode;
 
 const USAGE: &str = "\
 usage: decode [--seal] [FILE]
@@ -77,20 +78,24 @@ fn read_args(rt: &HostRuntime) -> Result<Asked, Failed> {
     Ok(asked)
 }
 
-fn main(rt: HostRuntime) -> Result<(), Failed> {
-    let asked = read_args(&rt)?;
+fn run(rt: &HostRuntime) -> Result<(), Failed> {
+    let asked = read_args(rt)?;
     if asked.help {
-        return print_all(&rt, NAME, USAGE.as_bytes());
+        return print_all(rt, NAME, USAGE.as_bytes());
     }
-    let text = read_input(&rt, NAME, &asked.input)?;
+    let text = read_input(rt, NAME, &asked.input)?;
     let decoded = match decode_text(rt.alloc(), text.as_slice(), asked.sealing) {
         Ok(decoded) => decoded,
-        Err(e) => return Err(stop(&rt, NAME, e)),
+        Err(e) => return Err(stop(rt, NAME, e)),
     };
-    print_all(&rt, NAME, decoded.reports.as_bytes())?;
+    print_all(rt, NAME, decoded.reports.as_bytes())?;
     if decoded.faults.is_empty() {
         return Ok(());
     }
     let _ = eprint!(rt; "{}", decoded.faults);
     Err(Failed)
+}
+
+fn main(rt: HostRuntime) -> ExitCode {
+    status(run(&rt))
 }

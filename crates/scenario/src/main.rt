@@ -8,15 +8,15 @@ mod speaking;
 mod story;
 mod wording;
 
-// The program stops with status 1, and has said why.
-struct Failed;
+use std::process::ExitCode;
 
-fn main(rt: HostRuntime) -> Result<(), Failed> {
+// The program stops with status 1 where it failed, and says why.
+fn main(rt: HostRuntime) -> ExitCode {
     match story::tell(&rt) {
-        Ok(()) => Ok(()),
+        Ok(()) => ExitCode::SUCCESS,
         Err(why) => {
             let _ = eprintln!(rt; "scenario: {why}");
-            Err(Failed)
+            ExitCode::FAILURE
         }
     }
 }

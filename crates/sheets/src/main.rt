@@ -1,9 +1,10 @@
 // Runs the example sheets and compares what each prints with the text that stands beside it.
 #![tactic(auto)]
 
-use console::streams::{Failed, stop};
+use console::streams::{Failed, status, stop};
 use sheet::running::run_sheet;
 use std::fs;
+use std::process::ExitCode;
 
 const NAMES: [&str; 4] = ["labelling", "closed-probed", "stock-of-40", "refused"];
 
@@ -37,9 +38,13 @@ fn try_sheet(rt: &HostRuntime, name: &str) -> Result<(), Failed> {
     }
 }
 
-fn main(rt: HostRuntime) -> Result<(), Failed> {
+fn run(rt: &HostRuntime) -> Result<(), Failed> {
     for name in NAMES {
-        try_sheet(&rt, name)?;
+        try_sheet(rt, name)?;
     }
     Ok(())
+}
+
+fn main(rt: HostRuntime) -> ExitCode {
+    status(run(&rt))
 }

@@ -4,11 +4,12 @@
 mod faults;
 mod options;
 
-use console::streams::{Failed, print_all, read_input, stop};
+use console::streams::{Failed, print_all, read_input, status, stop};
 use faults::Fault;
 use options::{Word, word_of};
 use sheet::running::run_sheet;
 use std::env;
+use std::process::ExitCode;
 
 const USAGE: &str = "\
 usage: tray [FILE]
@@ -87,19 +88,23 @@ fn read_args(rt: &HostRuntime) -> Result<Asked, Failed> {
     Ok(asked)
 }
 
-fn main(rt: HostRuntime) -> Result<(), Failed> {
-    let asked = read_args(&rt)?;
+fn run(rt: &HostRuntime) -> Result<(), Failed> {
+    let asked = read_args(rt)?;
     if asked.help {
-        return print_all(&rt, NAME, USAGE.as_bytes());
+        return print_all(rt, NAME, USAGE.as_bytes());
     }
-    let sheet = read_input(&rt, NAME, &asked.input)?;
+    let sheet = read_input(rt, NAME, &asked.input)?;
     let ran = match run_sheet(rt.alloc(), sheet.as_slice()) {
         Ok(ran) => ran,
-        Err(e) => return Err(stop(&rt, NAME, e)),
+        Err(e) => return Err(stop(rt, NAME, e)),
     };
-    print_all(&rt, NAME, ran.text.as_bytes())?;
+    print_all(rt, NAME, ran.text.as_bytes())?;
     match ran.fault {
-        Some(fault) => Err(stop(&rt, NAME, Fault(fault))),
+        Some(fault) => Err(stop(rt, NAME, Fault(fault))),
         None => Ok(()),
     }
+}
+
+fn main(rt: HostRuntime) -> ExitCode {
+    status(run(&rt))
 }

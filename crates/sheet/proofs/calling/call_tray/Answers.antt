@@ -7,10 +7,10 @@ use Rattle.sheet.specs.Sheets.{called_on, empty_buffer, empty_list}
 use Rattle.sheet.proofs.Drafted.{call_answered, call_refused}
 use Rattle.sheet.proofs.calling.call_tray.Goals as goal
 
-pub returns-in_ok-text : goal.returns-in_ok-text
-returns-in_ok-text c =
+pub returns-in_ok-text-in-Ok : goal.returns-in_ok-text-in-Ok
+returns-in_ok-text-in-Ok c =
     ap (λ (asks : Asks). called_on c.args.number (step pump_acts gauge_acts asks (model_of pump_means gauge_means c.args.tray) empty_buffer empty_list)) (sym c.call_of.ensures)
-    ∙ call_answered c.args.number _ c.in-Ok.answer _ _ _ _ c.in-Ok.ensures.result c.in_ok-text.ensures.ok
+    ∙ call_answered c.args.number _ c.in-Ok.answer _ _ _ _ c.in-Ok.ensures.result c.in_ok-text-in-Ok.ensures.ok
 
 pub returns-in-Err : goal.returns-in-Err
 returns-in-Err c =

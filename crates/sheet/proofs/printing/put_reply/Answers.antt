@@ -10,4 +10,4 @@ returns g c = λ plain ok.
     let end : c.min-end.result - 0 ≡ c.min-end.result = omega arith in
     has_written_of_eq g.W.Write.write_str_gives _ _ _ _
     (ap (λ (t : List ℕ). codes "reply," ++ hex_text t) (ap (λ (n : ℕ). take n all) end ∙ take_least c.args.len c.min-end.result all c.min-end.ensures))
-    (c.write.ensures.shows plain ok)
+    (c.write.ensures.writes plain ok)

@@ -14,14 +14,14 @@ returns-then-end-rest c =
     (ap (before old) (sym (line_unended n (stage_of c.loop-rest.stage) xs c.first_length-end.result c.first_length-end.ensures.result c.if-end-rest.true (omega arith))) ∙ c.loop-rest.invariant.0)
     c.refuse.ensures
 
-pub returns-then-end-gt-LINE-MOST : goal.returns-then-end-gt-LINE-MOST
-returns-then-end-gt-LINE-MOST c =
+pub returns-then-end-gt-LINE_MOST : goal.returns-then-end-gt-LINE_MOST
+returns-then-end-gt-LINE_MOST c =
     let xs : List ℕ = c.loop-rest.rest.now in
     let n : ℕ = c.loop-rest.number in
     let old : List ℕ = string_bytes c.loop-rest.text in
-    ran_then c.refuse-then-end-gt-LINE-MOST.result (before old (stopped_at n 13)) _
+    ran_then c.refuse-then-end-gt-LINE_MOST.result (before old (stopped_at n 13)) _
     (ap (before old) (sym (line_long n (stage_of c.loop-rest.stage) xs c.first_length-end.result c.first_length-end.ensures.result c.first_length-end.ensures.within c.if-end-rest.false (omega arith))) ∙ c.loop-rest.invariant.0)
-    c.refuse-then-end-gt-LINE-MOST.ensures
+    c.refuse-then-end-gt-LINE_MOST.ensures
 
 pub returns-in-Err : goal.returns-in-Err
 returns-in-Err c =
@@ -41,7 +41,7 @@ loop-rest-preserved c =
     let old : List ℕ = string_bytes c.loop-rest.text in
     let end : ℕ = c.first_length-end.result in
     let done = line_done n (stage_of c.loop-rest.stage) xs end c.first_length-end.ensures.result c.first_length-end.ensures.within c.if-end-rest.false (omega arith) in (
-      line_went n old (string_bytes c.push_str.new.self) (string_bytes c.in-Ok.done.text) (line_does n (take (end - 0) xs) (stage_of c.loop-rest.stage)) (stage_of c.in-Ok.done.stage) (parted 10 (behind_line xs end)) (c.in_ok-push_str.ensures.bytes ∙ ap (λ (t : List ℕ). old ++ t) c.as_str.ensures.value) c.in-Ok.ensures
+      line_went n old (string_bytes c.push_str.new.self) (string_bytes c.in-Ok.done.text) (line_does n (take (end - 0) xs) (stage_of c.loop-rest.stage)) (stage_of c.in-Ok.done.stage) (parted 10 (behind_line xs end)) (c.in_ok-push_str-in-Ok.ensures.bytes ∙ ap (λ (t : List ℕ). old ++ t) c.as_str.ensures.value) c.in-Ok.ensures
           ∙ ap (before old) (sym done) ∙ c.loop-rest.invariant.0,
       simp (length-take, length-drop) (omega arith),
     )

@@ -8,4 +8,4 @@ pub returns-in-Lock-clause-writes : goal.returns-in-Lock-clause-writes
 returns-in-Lock-clause-writes g c = λ plain ok.
     has_written_of_eq g.W.Write.write_str_gives _ _ _ _
     (ap (λ (op : Op). carried_words op c.args.self.now.address c.args.self.now.bytes.now) (sym c.in-Lock.is))
-    (c.write-in-Lock.ensures.shows plain ok)
+    (c.write-in-Lock.ensures.writes plain ok)

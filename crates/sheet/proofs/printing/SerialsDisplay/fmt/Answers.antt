@@ -9,7 +9,7 @@ use Rattle.sheet.proofs.printing.SerialsDisplay.fmt.Goals as goal
 pub loop-i-preserved : goal.loop-i-preserved
 loop-i-preserved g c = λ plain.
     let before = c.loop-i.invariant plain in
-    let put = c.in_ok-write.ensures.shows before.plain refl in
+    let put = c.in_ok-write.ensures.writes before.plain refl in
     let within = least_within c.args.self.now.listed (length c.args.self.now.list.now) c.min-i-end.result c.min-i-end.ensures in
     let inside : c.loop-i.i < length c.args.self.now.list.now = omega arith in
     has_written_of_eq g.W.Write.write_str_gives _ _ _ _
