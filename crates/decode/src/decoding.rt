@@ -4,9 +4,8 @@ ghost use Rattle.decode.specs.Lines.{line_bytes, lines_of};
 ghost use Rattle.decode.specs.Report.{reported, faulted, all_reports, all_faults};
 
 use crate::faults::Fault;
-use crate::lines::read_line;
+use crate::lines::{first_length, read_line};
 use crate::report::report_line;
-use parts::first_length;
 use std::alloc::{AllocError, Global};
 
 // What a text gives: the reports of its lines, and the messages for lines that are no hex.
@@ -50,7 +49,7 @@ pub fn decode_text(heap: Global, text: &[u8], sealing: bool) -> Result<Decoded, 
     let mut rest = text;
     let mut number = 1;
     loop {
-        let end = first_length(b'\n', rest);
+        let end = first_length(rest);
         decoded.add_line(heap, number, &rest[0..end], sealing)?;
         if end == rest.len() {
             return Ok(decoded);

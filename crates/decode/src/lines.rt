@@ -1,6 +1,6 @@
 // Lines of hex byte pairs.
-ghost use Rattle.std.specs.Prelude.{◌≡◌, IfOk};
-ghost use Rattle.decode.specs.Lines.{blank, pair_byte, line_bytes, items_of};
+ghost use Rattle.std.specs.Prelude.{◌≡◌, ◌≤◌, length, IfOk};
+ghost use Rattle.decode.specs.Lines.{blank, pair_byte, line_bytes, first_length, items_of};
 
 use hex_pairs::digit_value;
 use std::alloc::{AllocError, Global};
@@ -43,4 +43,12 @@ pub fn read_line(heap: Global, line: &[u8]) -> Result<Option<Vec<u8>>, AllocErro
         rest = more;
     }
     Ok(Some(bytes))
+}
+
+// How long the first line of a text is.
+pub fn first_length(text: &[u8]) -> usize
+    ensures result { result ≡ first_length text.now }
+    ensures within { result ≤ length text.now }
+{
+    parts::first_length(b'\n', text)
 }

@@ -3,6 +3,7 @@
 
 pub mod bytes;
 mod calling;
+pub mod cutting;
 mod drafting;
 pub mod drafts;
 pub mod faults;

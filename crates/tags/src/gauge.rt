@@ -7,7 +7,7 @@ ghost use Rattle.tags.specs.Making.{new_gauge, gauge_made, gauge_outcome};
 ghost use Rattle.tags.specs.Reacts.{Reacted};
 ghost use Rattle.tags.specs.Guarded.{gauge_duties};
 
-use crate::hearing::{React, Response, hear_frame};
+use crate::hearing::{React, Response, hear_received};
 use crate::kind::{Hearing, Kind};
 use crate::link::{Link, State};
 use crate::pages::{PageBytes, page_at};
@@ -110,7 +110,7 @@ impl React for GaugeTag {
                 | Frame::Attrib { .. }
                 | Frame::Halt { .. },
             ) => {
-                let said = self.link.hear(told, &self.memory);
+                let said = self.link.hear_for(told, &self.memory);
                 Response {
                     said,
                     accepted: false,
@@ -141,7 +141,7 @@ impl Kind for GaugeTag {
         self.link.lose_power();
     }
 
-    fn hear(&mut self, frame: &Received<'_>, reply: &mut [u8; 16]) -> Hearing {
-        hear_frame(self, frame, reply)
+    fn hear_received(&mut self, frame: &Received<'_>, reply: &mut [u8; 16]) -> Hearing {
+        hear_received(self, frame, reply)
     }
 }

@@ -32,7 +32,14 @@ pub trait React {
 }
 
 // Hears a frame in place. The reply goes to the front of the lent buffer.
-pub fn hear_frame<T: React>(tag: &mut T, frame: &Received<'_>, reply: &mut [u8; 16]) -> Hearing
+pub fn hear_frame<T: React>(tag: &mut T, frame: &[u8], reply: &mut [u8; 16]) -> Hearing
+    ensures { Told (hears_by T.reacts frame.now (T.means tag.old)) (T.means tag.new) reply.old reply.new result.len result.accepted }
+{
+    hear_received(tag, &Received::new(frame), reply)
+}
+
+// The same of a frame that was read already.
+pub fn hear_received<T: React>(tag: &mut T, frame: &Received<'_>, reply: &mut [u8; 16]) -> Hearing
     ensures { Told (hears_by T.reacts (on_air frame.now) (T.means tag.old)) (T.means tag.new) reply.old reply.new result.len result.accepted }
 {
     let Some(told) = frame.told() else {
@@ -42,10 +49,7 @@ pub fn hear_frame<T: React>(tag: &mut T, frame: &Received<'_>, reply: &mut [u8; 
         };
     };
     let response = tag.react(told);
-    let len = match response.said {
-        Some(said) => put_reply(told, said, reply),
-        None => 0,
-    };
+    let len = put_reply(told, response.said, reply);
     Hearing {
         len,
         accepted: response.accepted,

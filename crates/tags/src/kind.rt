@@ -30,8 +30,15 @@ pub trait Kind: Copy {
     fn lose_power(&mut self)
         ensures { means self.new ≡ acts.loses (means self.old) };
 
-    // Hears a frame, in place; it was read once for every tag. The reply, of 0 to 16 bytes, goes to the front of the lent buffer.
-    fn hear(&mut self, frame: &Received<'_>, reply: &mut [u8; 16]) -> Hearing
+    // Hears a frame, in place. The reply, of 0 to 16 bytes, goes to the front of the lent buffer.
+    fn hear(&mut self, frame: &[u8], reply: &mut [u8; 16]) -> Hearing
+        ensures { Told (acts.hears frame.now (means self.old)) (means self.new) reply.old reply.new result.len result.accepted }
+    {
+        self.hear_received(&Received::new(frame), reply)
+    }
+
+    // The same of a frame that was read once for every tag.
+    fn hear_received(&mut self, frame: &Received<'_>, reply: &mut [u8; 16]) -> Hearing
         ensures { Told (acts.hears (on_air frame.now) (means self.old)) (means self.new) reply.old reply.new result.len result.accepted };
 
     ghost duties: { Duties off acts };

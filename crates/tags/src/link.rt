@@ -146,8 +146,19 @@ impl Link {
         }
     }
 
-    // Hears a request, a slot marker, ATTRIB or HLTB, for a tag with these pages.
-    pub(crate) fn hear(&mut self, told: Frame<'_>, pages: &[u8]) -> Option<Said>
+    // Hears a request, a slot marker, ATTRIB or HLTB, for a tag with this serial number and application data.
+    pub fn hear(&mut self, told: Frame<'_>, own: Serial, application: [u8; 4]) -> Option<Said>
+        ensures after { self.new ≡ (link_hears own application (frame_of told.entry) self.old).after }
+        ensures says { saying_of result ≡ (link_hears own application (frame_of told.entry) self.old).says }
+    {
+        let [s0, s1, s2, s3] = own;
+        let [a0, a1, a2, a3] = application;
+        let pages = [s0, s1, s2, s3, 0, 0, 0, 0, a0, a1, a2, a3, 0, 0, 0, 0];
+        self.hear_for(told, &pages)
+    }
+
+    // The same for a tag with these pages.
+    pub(crate) fn hear_for(&mut self, told: Frame<'_>, pages: &[u8]) -> Option<Said>
         requires { 16 ≤ length pages.now }
         ensures after { self.new ≡ (link_hears (serial_in pages.now) (application_in pages.now) (frame_of told.entry) self.old).after }
         ensures says { saying_of result ≡ (link_hears (serial_in pages.now) (application_in pages.now) (frame_of told.entry) self.old).says }

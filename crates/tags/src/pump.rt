@@ -10,7 +10,7 @@ ghost use Rattle.tags.specs.Pump.{pump_reads, pump_writes, pump_locks, pump_chec
 ghost use Rattle.tags.specs.Reacts.{Reacted};
 ghost use Rattle.tags.specs.Guarded.{pump_duties};
 
-use crate::hearing::{React, Response, hear_frame};
+use crate::hearing::{React, Response, hear_received};
 use crate::kind::{Hearing, Kind};
 use crate::link::{Link, State};
 use crate::pages::{PageBytes, page_at, put_page};
@@ -254,7 +254,7 @@ impl React for PumpTag {
                 | Frame::Attrib { .. }
                 | Frame::Halt { .. },
             ) => {
-                let said = self.link.hear(told, &self.memory);
+                let said = self.link.hear_for(told, &self.memory);
                 Response {
                     said,
                     accepted: false,
@@ -286,7 +286,7 @@ impl Kind for PumpTag {
         self.opened = false;
     }
 
-    fn hear(&mut self, frame: &Received<'_>, reply: &mut [u8; 16]) -> Hearing {
-        hear_frame(self, frame, reply)
+    fn hear_received(&mut self, frame: &Received<'_>, reply: &mut [u8; 16]) -> Hearing {
+        hear_received(self, frame, reply)
     }
 }

@@ -1,9 +1,9 @@
 // What a tag says, and the bytes in which it says it.
-ghost use Rattle.std.specs.Prelude.{◌≡◌, ℕ, ◌+◌, ◌≤◌, [], ◌∷◌, ◌++◌, length, Some};
+ghost use Rattle.std.specs.Prelude.{◌≡◌, ℕ, ◌+◌, ◌≤◌, [], ◌∷◌, ◌++◌, length};
 ghost use Rattle.typeb.specs.CheckBytes.{sealed};
 ghost use Rattle.typeb.specs.Hears.{frame_of};
 ghost use Rattle.tags.specs.Kinds.{Placed};
-ghost use Rattle.tags.specs.Says.{Answer, Page, protocol_info, nack_code, repeated, echo, page_named, said_body, reply_bytes, says_of};
+ghost use Rattle.tags.specs.Says.{Answer, Page, protocol_info, nack_code, repeated, echo, page_named, said_body, reply_bytes, says_of, saying_of};
 
 use typeb::crc::seal_into;
 use typeb::frames::{Frame, Serial};
@@ -141,9 +141,12 @@ fn put_said(echo: Echo, said: Said, reply: &mut [u8; 16]) -> usize
     }
 }
 
-// What is said to a frame, in bytes, at the front of the buffer. Answers the length.
-pub fn put_reply(told: Frame<'_>, said: Said, reply: &mut [u8; 16]) -> usize
-    ensures { Placed (reply_bytes (frame_of told.entry) (Some (says_of said))) reply.old reply.new result }
+// The reply to a frame, at the front of the buffer; nothing where nothing is said. Answers the length.
+pub fn put_reply(told: Frame<'_>, said: Option<Said>, reply: &mut [u8; 16]) -> usize
+    ensures { Placed (reply_bytes (frame_of told.entry) (saying_of said)) reply.old reply.new result }
 {
-    put_said(echo_of(told), said, reply)
+    match said {
+        Some(words) => put_said(echo_of(told), words, reply),
+        None => 0,
+    }
 }

@@ -31,7 +31,7 @@ pub(crate) fn tell_tag<K: Kind>(tag: &mut K, frame: &Received<'_>, heard: &mut S
     ensures count { how_many heard.new ≤ how_many heard.old + 1 }
 {
     let mut bytes = [0u8; 16];
-    let told = tag.hear(frame, &mut bytes);
+    let told = tag.hear_received(frame, &mut bytes);
     let len = told.len;
     if len > 0 {
         *heard = joined_by(*heard, Message { bytes, len });

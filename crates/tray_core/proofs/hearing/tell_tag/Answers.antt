@@ -6,7 +6,7 @@ use Rattle.tray_core.proofs.hearing.tell_tag.Goals as goal
 
 pub returns-then-len-gt0 : goal.returns-then-len-gt0
 returns-then-len-gt0 g c =
-    let told = c.hear-told.ensures in
+    let told = c.hear_received-told.ensures in
     record {
       after = told.tag_after;
       sounds =

@@ -1,0 +1,2 @@
+// Lines of a sheet and fields of a line are cut at a mark, as any text is.
+pub use parts::{field, field_count, first_length};
