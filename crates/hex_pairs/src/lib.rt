@@ -5,7 +5,7 @@ ghost use Rattle.std.specs.Prelude.{◌≡◌, ◌%◌, [], ◌∷◌, Some};
 ghost use Rattle.hex_pairs.specs.Hex.{hex_digit, hex_text, digit_value, ReadsBack, OnlyWritten, AllDigits};
 ghost use Rattle.std.specs.Fmt.{WritesOnOk};
 
-use std::{fmt, str};
+use std::fmt;
 
 // The digit of a value below 16, lower case; of a larger value the low nibble counts.
 pub fn digit(value: u8) -> u8
@@ -68,9 +68,8 @@ impl fmt::Display for Hex<'_> {
 fn put_byte<W: fmt::Write>(f: &mut fmt::Formatter<W>, byte: u8) -> fmt::Result
     ensures { WritesOnOk W.write_str_gives f.old result (hex_text (byte ∷ [])) f.new }
 {
-    let pair = digits(byte);
-    match str::from_utf8(&pair) {
-        Ok(text) => f.write_str(text),
-        Err(_) => Err(fmt::Error),
-    }
+    let [high, low] = digits(byte);
+    let high = char::from(high);
+    let low = char::from(low);
+    write!(f, "{high}{low}")
 }

@@ -40,9 +40,9 @@ module _ {H : Type 0} (obeys : Op → ℕ → List ℕ → Meaning Shown H → R
   judged_exactly : ((P : Says → Type 0) (frame : Heard) → ToFrame P frame → Only P (reacts_by obeys frame m).says)
       → (a : Asked) → Sized a → in_range a ≡ true → (s : Says) → says_to (reacts_by obeys) (frame_for a) m ≡ Some s
       → judged a ((acts_by obeys).hears (frame_for a) m).reply ≡ Ok s
-  judged_exactly says a sized ok s says-s =
+  judged_exactly says a sized ok s says_s =
       let read = reads_back a sized ok in
-      let said : (reacts_by obeys (heard_as a) m).says ≡ Some s = ap (says_at (reacts_by obeys) m) (sym read) ∙ says-s in
+      let said : (reacts_by obeys (heard_as a) m).says ≡ Some s = ap (says_at (reacts_by obeys) m) (sym read) ∙ says_s in
       let answers : Answers a s = MatchOption-at_some (Unit {0}) (Answers a) s said (says (Answers a) (heard_as a) (can_be_said a ok)) in
       ap (λ o. judged a (answered (reacts_by obeys) m o).reply) read
       ∙ ap (λ (o : Option Says). judged a (reply_bytes (heard_as a) o)) said

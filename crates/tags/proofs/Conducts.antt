@@ -214,9 +214,9 @@ readable page other =
     (cases_Bool (ltb page 3))
 
 read_open : (page : ℕ) (m : PumpMeaning) → (page ≡ 3 → ⊥) → m.opened ≡ true → (pump_reads page m).says ≡ Some (Page (page_of page m))
-read_open page m other open-now =
+read_open page m other open_now =
     let can = readable page other in
-    let now : read_now (reading_of page) m.opened ≡ true = ap (read_now (reading_of page)) open-now ∙ can.1 in
+    let now : read_now (reading_of page) m.opened ≡ true = ap (read_now (reading_of page)) open_now ∙ can.1 in
     ap (λ (r : Reaction PumpMeaning). r.says) (asked_on (ever_read (reading_of page)) 0x21 m _ can.0 ∙ asked_on (read_now (reading_of page) m.opened) 0x41 m _ now)
 
 reads_back : ReadsBack

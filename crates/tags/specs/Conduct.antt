@@ -162,8 +162,8 @@ atqb = 0x50 ∷ 0x11 ∷ 0x22 ∷ 0x33 ∷ 0x44 ∷ 0 ∷ 0 ∷ 0 ∷ 0 ∷ 0x00
 abbrev pub page_four : List ℕ
 page_four = 0x45 ∷ 0x04 ∷ 0x10 ∷ 0x20 ∷ 0x30 ∷ 0x40 ∷ 0x50 ∷ 0x60 ∷ 0x70 ∷ 0x80 ∷ 0xC3 ∷ 0x0B ∷ []
 
-abbrev pub answered : List (List ℕ)
-answered =
+abbrev pub replies_spoken : List (List ℕ)
+replies_spoken =
     atqb
     ∷ (0x00 ∷ 0x78 ∷ 0xF0 ∷ [])
     ∷ []
@@ -182,7 +182,7 @@ answered =
     ∷ []
 
 abbrev pub Conversation : Type 0
-Conversation = answers_all (pump_acts.gains (tag_in Off false (0x11 ∷ 0x22 ∷ 0x33 ∷ 0x44 ∷ replicate 20 0) (replicate 232 0))) spoken ≡ answered
+Conversation = answers_all (pump_acts.gains (tag_in Off false (0x11 ∷ 0x22 ∷ 0x33 ∷ 0x44 ∷ replicate 20 0) (replicate 232 0))) spoken ≡ replies_spoken
 
 -- All of these.
 pub record Conduct : Type 0 where

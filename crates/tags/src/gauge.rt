@@ -4,17 +4,18 @@ ghost use Rattle.typeb.specs.Hears.{frame_of};
 ghost use Rattle.tags.specs.Common.{Shown, is_off_tag, reacts_by};
 ghost use Rattle.tags.specs.Gauge.{gauge_means, gauge_acts, gauge_reads, gauge_obeys};
 ghost use Rattle.tags.specs.Making.{new_gauge, gauge_made, gauge_outcome};
+ghost use Rattle.tags.specs.Pages.{serial_in, application_in};
 ghost use Rattle.tags.specs.Reacts.{Reacted};
 ghost use Rattle.tags.specs.Guarded.{gauge_duties};
 
-use crate::hearing::{React, Response, hear_received};
+use crate::hearing::{React, Response, hear_frame, hear_received};
 use crate::kind::{Hearing, Kind};
 use crate::link::{Link, State};
 use crate::pages::{PageBytes, page_at};
 use crate::said::{Nack, Said};
 use refusals::Refusal;
 use typeb::bytes::same_bytes;
-use typeb::frames::{Frame, Op};
+use typeb::frames::{Frame, Op, Serial};
 use typeb::received::Received;
 
 #[derive(Clone, Copy)]
@@ -48,6 +49,20 @@ impl GaugeTag {
         let mut tag = GaugeTag::blank(draw);
         tag.memory.copy_from_slice(image);
         Ok(tag)
+    }
+
+    fn serial(&self) -> Serial
+        ensures { result ≡ serial_in (gauge_means self.now).shown.pages }
+    {
+        let page = page_at(&self.memory, 0);
+        [page[0], page[1], page[2], page[3]]
+    }
+
+    fn application(&self) -> [u8; 4]
+        ensures { result ≡ application_in (gauge_means self.now).shown.pages }
+    {
+        let page = page_at(&self.memory, 1);
+        [page[0], page[1], page[2], page[3]]
     }
 
     fn read(&self, address: u8) -> Said
@@ -110,7 +125,9 @@ impl React for GaugeTag {
                 | Frame::Attrib { .. }
                 | Frame::Halt { .. },
             ) => {
-                let said = self.link.hear_for(told, &self.memory);
+                let serial = self.serial();
+                let application = self.application();
+                let said = self.link.hear(told, serial, application);
                 Response {
                     said,
                     accepted: false,
@@ -139,6 +156,10 @@ impl Kind for GaugeTag {
 
     fn lose_power(&mut self) {
         self.link.lose_power();
+    }
+
+    fn hear(&mut self, frame: &[u8], reply: &mut [u8; 16]) -> Hearing {
+        hear_frame(self, frame, reply)
     }
 
     fn hear_received(&mut self, frame: &Received<'_>, reply: &mut [u8; 16]) -> Hearing {

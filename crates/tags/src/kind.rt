@@ -32,14 +32,14 @@ pub trait Kind: Copy {
 
     // Hears a frame, in place. The reply, of 0 to 16 bytes, goes to the front of the lent buffer.
     fn hear(&mut self, frame: &[u8], reply: &mut [u8; 16]) -> Hearing
-        ensures { Told (acts.hears frame.now (means self.old)) (means self.new) reply.old reply.new result.len result.accepted }
-    {
-        self.hear_received(&Received::new(frame), reply)
-    }
+        ensures { Told (acts.hears frame.now (means self.old)) (means self.new) reply.old reply.new result.len result.accepted };
 
-    // The same of a frame that was read once for every tag.
+    // The same of a frame that was read once for every tag; a kind that takes the reading need not read it again.
     fn hear_received(&mut self, frame: &Received<'_>, reply: &mut [u8; 16]) -> Hearing
-        ensures { Told (acts.hears (on_air frame.now) (means self.old)) (means self.new) reply.old reply.new result.len result.accepted };
+        ensures { Told (acts.hears (on_air frame.now) (means self.old)) (means self.new) reply.old reply.new result.len result.accepted }
+    {
+        self.hear(frame.bytes(), reply)
+    }
 
     ghost duties: { Duties off acts };
 }

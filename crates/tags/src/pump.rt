@@ -3,14 +3,14 @@ ghost use Rattle.std.specs.Prelude.{◌≡◌, ℕ, ◌%◌, false, List, replic
 ghost use Rattle.typeb.specs.Hears.{frame_of};
 ghost use Rattle.tags.specs.Conduct.{Conduct};
 ghost use Rattle.tags.specs.Making.{new_pump, pump_made, pump_outcome};
-ghost use Rattle.tags.specs.Pages.{unlocked, counter_in};
+ghost use Rattle.tags.specs.Pages.{serial_in, application_in, unlocked, counter_in};
 ghost use Rattle.tags.specs.Common.{Shown, is_off_tag, reacts_by, deselects};
 ghost use Rattle.tags.specs.Pump.{pump_means, page_of, with_page, pump_acts, pump_obeys};
 ghost use Rattle.tags.specs.Pump.{pump_reads, pump_writes, pump_locks, pump_checks, pump_counts};
 ghost use Rattle.tags.specs.Reacts.{Reacted};
 ghost use Rattle.tags.specs.Guarded.{pump_duties};
 
-use crate::hearing::{React, Response, hear_received};
+use crate::hearing::{React, Response, hear_frame, hear_received};
 use crate::kind::{Hearing, Kind};
 use crate::link::{Link, State};
 use crate::pages::{PageBytes, page_at, put_page};
@@ -18,7 +18,7 @@ use crate::rights::{Reading, Writing, rights_of};
 use crate::said::{Nack, Said};
 use refusals::Refusal;
 use typeb::bytes::same_bytes;
-use typeb::frames::{Frame, Op};
+use typeb::frames::{Frame, Op, Serial};
 use typeb::received::Received;
 
 // The page of serial number and lock bits, that of signature and counter, and the password.
@@ -88,6 +88,20 @@ impl PumpTag {
         ensures { pump_means self.new ≡ with_page (address % 32) page (pump_means self.old) }
     {
         put_page(&mut self.memory, (address % 32) as usize, page);
+    }
+
+    fn serial(&self) -> Serial
+        ensures { result ≡ serial_in (pump_means self.now).shown.pages }
+    {
+        let page = self.page(0);
+        [page[0], page[1], page[2], page[3]]
+    }
+
+    fn application(&self) -> [u8; 4]
+        ensures { result ≡ application_in (pump_means self.now).shown.pages }
+    {
+        let page = self.page(1);
+        [page[0], page[1], page[2], page[3]]
     }
 
     // The page's lock bit is clear.
@@ -254,7 +268,9 @@ impl React for PumpTag {
                 | Frame::Attrib { .. }
                 | Frame::Halt { .. },
             ) => {
-                let said = self.link.hear_for(told, &self.memory);
+                let serial = self.serial();
+                let application = self.application();
+                let said = self.link.hear(told, serial, application);
                 Response {
                     said,
                     accepted: false,
@@ -284,6 +300,10 @@ impl Kind for PumpTag {
     fn lose_power(&mut self) {
         self.link.lose_power();
         self.opened = false;
+    }
+
+    fn hear(&mut self, frame: &[u8], reply: &mut [u8; 16]) -> Hearing {
+        hear_frame(self, frame, reply)
     }
 
     fn hear_received(&mut self, frame: &Received<'_>, reply: &mut [u8; 16]) -> Hearing {

@@ -68,10 +68,10 @@ module _ {SF HF SB HB : Type 0} where
         (record { field = t.field; front = t.front; back = change_at (n - 32) (in_back t.field) t.back })
 
     near_with_changed : {w : Which} {t u : Model SF HF SB HB} → ((field : Bool) → Keeps (in_front field)) → ((field : Bool) → Keeps (in_back field)) → NearTray w t u → NearTray w (with_changed t) (with_changed u)
-    near_with_changed keepsFront keepsBack (near_tray field {fs = fs} {gs = gs} fronts backs) =
+    near_with_changed keeps_front keeps_back (near_tray field {fs = fs} {gs = gs} fronts backs) =
         near_chosen (ltb n (length fs)) (ltb n (length gs)) (ap (ltb n) (same_length fronts))
-        (near_tray field (near_changed (in_front field) (keepsFront field) n fronts) backs)
-        (near_tray field fronts (near_changed (in_back field) (keepsBack field) (n - 32) backs))
+        (near_tray field (near_changed (in_front field) (keeps_front field) n fronts) backs)
+        (near_tray field fronts (near_changed (in_back field) (keeps_back field) (n - 32) backs))
 
   -- equal to the caller, and near still
   abbrev Agree : {A : Type 0} → Which → A → A → Model SF HF SB HB → Model SF HF SB HB → Type 0
@@ -103,63 +103,63 @@ module _ {SF HF SB HB : Type 0} {off_f : SF → Bool} {off_b : SB → Bool} (F :
   near_frame : (w : Which) (frame : List ℕ) {t u : Model SF HF SB HB} → accepts F B w frame t ≡ false → accepts F B w frame u ≡ false → NearTray w t u
       → Agree w (sounds_of F B frame t) (sounds_of F B frame u) (after_frame F B frame t) (after_frame F B frame u)
   near_frame w frame a b (near_tray true {fs} {gs} {bs} {cs} fronts backs) =
-      let (frontA, back_a) = none_in_rows w frame fs bs a in
-      let (frontB, back_b) = none_in_rows w frame gs cs b in
-      let (soundsF, afterF) = near_hears F duties_f frame fronts frontA frontB in
-      let (soundsB, afterB) = near_hears B duties_b frame backs back_a back_b in
-      (ap₂ meet soundsF soundsB, near_tray true afterF afterB)
+      let (front_a, back_a) = none_in_rows w frame fs bs a in
+      let (front_b, back_b) = none_in_rows w frame gs cs b in
+      let (sounds_f, after_f) = near_hears F duties_f frame fronts front_a front_b in
+      let (sounds_b, after_b) = near_hears B duties_b frame backs back_a back_b in
+      (ap₂ meet sounds_f sounds_b, near_tray true after_f after_b)
   near_frame w frame a b (near_tray false fronts backs) = (refl, near_tray false fronts backs)
 
   -- a script ends the same
   near_script : {A : Type 0} (w : Which) (s : Script A) (t u : Model SF HF SB HB) → NoneInScript F B w s t → NoneInScript F B w s u → NearTray w t u
       → Agree w (played F B s t) (played F B s u) (after_play F B s t) (after_play F B s u)
-  near_script w (done a) t u noneT noneU near = (refl, near)
-  near_script w (send frame next) t u noneT noneU near =
-      let (heard, nearer) = near_frame w frame noneT.0 noneU.0 near in
+  near_script w (done a) t u none_t none_u near = (refl, near)
+  near_script w (send frame next) t u none_t none_u near =
+      let (heard, nearer) = near_frame w frame none_t.0 none_u.0 near in
       let s = next (sounds_of F B frame t) in
       let t' = after_frame F B frame t in
       let u' = after_frame F B frame u in
       subst
       (λ (x : Sounds). NoneInScript F B w (next x) u' → Agree w (played F B s t') (played F B (next x) u') (after_play F B s t') (after_play F B (next x) u'))
       heard
-      (λ none. near_script w (next (sounds_of F B frame t)) t' u' noneT.1 none nearer)
-      noneU.1
+      (λ none. near_script w (next (sounds_of F B frame t)) t' u' none_t.1 none nearer)
+      none_u.1
 
   -- a call shows the same
   module _ (w : Which) (t u : Model SF HF SB HB) (near : NearTray w t u) (buffer : List ℕ) (list : List (List ℕ)) where
     near_does : (c : Asks) → NoneInCall F B w None c t → NoneInCall F B w None c u → SameOutcome w (does F B c t buffer list) (does F B c u buffer list)
-    near_does On noneT noneU = (refl, near_on near)
-    near_does Off noneT noneU = (refl, near_off near)
-    near_does (Place n) noneT noneU = (refl, near_with_changed (placed F) (placed B) n (keeps_placed F duties_f) (keeps_placed B duties_b) near)
-    near_does (Lift n) noneT noneU = (refl, near_with_changed (lifted F) (lifted B) n (keeps_lifted F duties_f) (keeps_lifted B duties_b) near)
-    near_does (Frame frame) noneT noneU =
-        let (heard, nearer) = near_frame w frame noneT noneU near in
+    near_does On none_t none_u = (refl, near_on near)
+    near_does Off none_t none_u = (refl, near_off near)
+    near_does (Place n) none_t none_u = (refl, near_with_changed (placed F) (placed B) n (keeps_placed F duties_f) (keeps_placed B duties_b) near)
+    near_does (Lift n) none_t none_u = (refl, near_with_changed (lifted F) (lifted B) n (keeps_lifted F duties_f) (keeps_lifted B duties_b) near)
+    near_does (Frame frame) none_t none_u =
+        let (heard, nearer) = near_frame w frame none_t none_u near in
         (ap (λ (x : Sounds). record { answer = Ok (heard_answer x); buffer = heard_buffer x buffer; list = list }) heard, nearer)
-    near_does Stock noneT noneU =
-        let (counted, nearer) = near_script w stocktaking t u noneT noneU near in
+    near_does Stock none_t none_u =
+        let (counted, nearer) = near_script w stocktaking t u none_t none_u near in
         (ap (λ (x : Tally). record { answer = Ok (figures x); buffer = buffer; list = x.serials ++ drop (length x.serials) list }) counted, nearer)
 
     near_unless : (o : Option ℕ) (c : Asks) → NoneInCall F B w o c t → NoneInCall F B w o c u → SameOutcome w (unless_refused F B o c t buffer list) (unless_refused F B o c u buffer list)
-    near_unless (Some why) c noneT noneU = (refl, near)
-    near_unless None c noneT noneU = near_does c noneT noneU
+    near_unless (Some why) c none_t none_u = (refl, near)
+    near_unless None c none_t none_u = near_does c none_t none_u
 
     near_step : (c : Asks) → NoneInCall F B w (refused_by c t buffer list) c t → NoneInCall F B w (refused_by c u buffer list) c u → SameOutcome w (step F B c t buffer list) (step F B c u buffer list)
-    near_step c noneT =
+    near_step c none_t =
         subst
         (λ (o : Option ℕ). NoneInCall F B w o c u → SameOutcome w (step F B c t buffer list) (unless_refused F B o c u buffer list))
         (same_refusal c buffer list near)
-        (near_unless (refused_by c t buffer list) c noneT)
+        (near_unless (refused_by c t buffer list) c none_t)
 
   -- a run shows the same
   near_run : (w : Which) (t u : Model SF HF SB HB) (cs : List Turn) → NearTray w t u → NoCheck F B w t cs → NoCheck F B w u cs
       → Agree w (seen F B t cs) (seen F B u cs) (run F B t cs) (run F B u cs)
-  near_run w t u [] near noneT noneU = (refl, near)
-  near_run w t u (c ∷ cs) near noneT noneU =
-      let (now, nearer) = near_step w t u near c.buffer c.list c.call noneT.0 noneU.0 in
-      let (after, nearest) = near_run w (turn F B c t).tray (turn F B c u).tray cs nearer noneT.1 noneU.1 in
+  near_run w t u [] near none_t none_u = (refl, near)
+  near_run w t u (c ∷ cs) near none_t none_u =
+      let (now, nearer) = near_step w t u near c.buffer c.list c.call none_t.0 none_u.0 in
+      let (after, nearest) = near_run w (turn F B c t).tray (turn F B c u).tray cs nearer none_t.1 none_u.1 in
       (ap₂ ◌∷◌ now after, nearest)
 
   pub hiding : Hiding F B
-  hiding w t u cs apart noneT noneU =
-      let (shown, near) = near_run w t u cs (tray_of_apart w t u apart) noneT noneU in
+  hiding w t u cs apart none_t none_u =
+      let (shown, near) = near_run w t u cs (tray_of_apart w t u apart) none_t none_u in
       (shown, apart_of_tray w near)

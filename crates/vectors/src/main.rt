@@ -6,6 +6,7 @@ mod judging;
 use hex_pairs::Hex;
 use judging::{Verdict, judge};
 use std::io;
+use std::process::ExitCode;
 
 // A body and its check bytes, in the order in which they are sent.
 const EXAMPLES: [(&[u8], [u8; 2]); 9] = [
@@ -25,7 +26,7 @@ const EXAMPLES: [(&[u8], [u8; 2]); 9] = [
     (&[0x60, 0x00], [0x12, 0x6A]),
 ];
 
-fn main(rt: HostRuntime) -> io::Result<()> {
+fn run(rt: &HostRuntime) -> io::Result<()> {
     let total = EXAMPLES.len();
     let mut agree = 0usize;
     for (body, check) in EXAMPLES {
@@ -42,5 +43,13 @@ fn main(rt: HostRuntime) -> io::Result<()> {
         Ok(())
     } else {
         Err(io::Error::from(io::ErrorKind::InvalidData))
+    }
+}
+
+// The program stops with status 1 where an example disagrees.
+fn main(rt: HostRuntime) -> ExitCode {
+    match run(&rt) {
+        Ok(()) => ExitCode::SUCCESS,
+        Err(_) => ExitCode::FAILURE,
     }
 }
