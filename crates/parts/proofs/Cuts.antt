@@ -1,6 +1,6 @@
 -- A text is cut at the end of its first part.
-use Rattle.std.proofs.Common.{◌≡◌, ℕ, zero, suc, ◌+◌, ◌-◌, ◌<◌, ◌≤◌, Bool, true, false, cond, eqb, List, [], ◌∷◌, length, get_or, take, drop, sym, refl, ap, ◌∙◌, arith}
-use Rattle.std.proofs.lemmas.List.{take_all, take_rest}
+use Rattle.std.proofs.Common.{◌≡◌, ℕ, zero, suc, ◌+◌, ◌-◌, ◌<◌, ◌≤◌, Bool, true, false, cond, eqb, List, [], ◌∷◌, length, take, drop, sym, refl, ap, ◌∙◌, arith}
+use Rattle.std.proofs.lemmas.List.{take_rest}
 use Rattle.parts.specs.Parts.{parted, on_first, first_length, field_at}
 
 cut_at : (b : Bool) (m c : ℕ) (xs : List ℕ) → (first_length m xs < length xs → parted m xs ≡ take (first_length m xs) xs ∷ parted m (drop (first_length m xs + 1) xs))

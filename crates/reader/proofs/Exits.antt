@@ -1,12 +1,12 @@
 -- What slice patterns over a sound body have read.
-use Rattle.std.proofs.Common.{◌≡◌, ℕ, ◌+◌, ◌-◌, ◌≤◌, Bool, true, false, cond, ◌&&◌, ◌||◌, eqb, List, [], ◌∷◌, length, get_or, take, drop, Ok, Err, Result, sym, refl, ap, ◌∙◌, ⊎_elim, arith}
+use Rattle.std.proofs.Common.{◌≡◌, ℕ, ◌-◌, ◌≤◌, Bool, true, false, ◌||◌, eqb, List, [], ◌∷◌, length, get_or, take, drop, Ok, sym, refl, ap, ◌∙◌, ⊎_elim, arith}
 use Rattle.std.proofs.lemmas.List.{length-take, length-drop, take_all, take_rest}
 use Rattle.std.proofs.lemmas.Bool.{eq-eqb, eqb-true, or_cases}
 use Rattle.refusals.specs.Numbers.{asked}
 use Rattle.typeb.specs.CheckBytes.{sound, body_of}
 use Rattle.typeb.proofs.Parts.{take_four}
 use Rattle.tags.proofs.Lists.{listed}
-use Rattle.tags.specs.Says.{Says, Answer, Page}
+use Rattle.tags.specs.Says.{Answer, Page}
 use Rattle.reader.specs.Judged.{sound_body, then, judged_answer, judged_page}
 
 both : (f s : Bool) (body b : List ℕ) → Ok body ≡ asked f 9 (asked s 10 (Ok b)) → (f ≡ true) × (body ≡ b)

@@ -9,7 +9,7 @@ use Rattle.reader.specs.Judged.{judged}
 use Rattle.tray_core.specs.declared.calls.Answer as calls
 use Rattle.tray_core.specs.declared.calls.Answer.TheVariants as answer
 use Rattle.tray_core.specs.Sounds as sounds
-use Rattle.tray_core.specs.Step.{Outcome, Frame, refused_by, step}
+use Rattle.tray_core.specs.Step.{Frame, refused_by, step}
 use Rattle.tray_core.specs.Trays.{Model, sounds_of}
 use Rattle.scenario.specs.declared.speaking.Heard.{Heard}
 use Rattle.scenario.specs.declared.speaking.Heard.TheVariants as heard

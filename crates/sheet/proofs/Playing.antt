@@ -1,5 +1,5 @@
 -- Every run plays its calls.
-use Rattle.std.proofs.Common.{◌≡◌, ℕ, ◌+◌, ◌-◌, Bool, true, false, cond, eqb, ltb, leb, List, [], ◌∷◌, ◌++◌, length, Some, None, Ok, Err, Option, Result, sym, refl, ap, ◌∙◌, subst, append_assoc, arith}
+use Rattle.std.proofs.Common.{◌≡◌, ℕ, ◌+◌, ◌-◌, Bool, true, false, cond, eqb, ltb, leb, List, [], ◌∷◌, ◌++◌, length, Some, None, Ok, Err, Result, sym, refl, ap, ◌∙◌, subst, append_assoc, arith}
 use Rattle.std.proofs.lemmas.Bool.{cond-false, ne_eqb}
 use Rattle.tags.specs.Gauge.{GaugeMeaning}
 use Rattle.tags.specs.Pump.{PumpMeaning}
@@ -11,7 +11,7 @@ use Rattle.sheet.specs.Drafts.{Draft, blank_pump, blank_gauge, front_paged, back
 use Rattle.parts.specs.Parts.{parted}
 use Rattle.sheet.specs.Lines.{Says, Tag, Page, Calls, line_says}
 use Rattle.sheet.specs.Printing.{printed_answer}
-use Rattle.sheet.specs.Sheets.{SheetTray, Stage, Naming, Calling, Came, Went, Stopped, Run, Refused, stopped_at, ended, before, go_on, says_do, answered, tray_in, tags_of, with_front, with_back, lines_run, run_of}
+use Rattle.sheet.specs.Sheets.{SheetTray, Stage, Naming, Calling, Came, Went, Stopped, Run, Refused, stopped_at, ended, before, go_on, says_do, answered, tray_in, with_front, with_back, lines_run}
 use Rattle.sheet.specs.Played.{CallLine, call_in, calls_in, Names, NewTag, SetPage, name_in, names_in, does_name, Leads, step_of, Played, Plays, SheetPlays}
 
 some_none : (r : Refused) → Some r ≡ None → ⊥

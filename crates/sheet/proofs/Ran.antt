@@ -1,12 +1,12 @@
 -- The steps of a run, as the code cuts its lines.
-use Rattle.std.proofs.Common.{◌≡◌, ℕ, ◌+◌, ◌-◌, ◌<◌, ◌≤◌, true, false, cond, eqb, leb, List, [], ◌∷◌, ◌++◌, length, take, drop, IfOk, None, Ok, Err, string_bytes, Result, sym, refl, ap, ◌∙◌, append_assoc, append-nil, arith, length-take}
+use Rattle.std.proofs.Common.{◌≡◌, ℕ, ◌+◌, ◌-◌, ◌<◌, ◌≤◌, cond, leb, List, [], ◌∷◌, ◌++◌, length, take, drop, IfOk, None, Ok, Err, string_bytes, Result, sym, refl, ap, ◌∙◌, append_assoc, append-nil, arith, length-take}
 use Rattle.std.proofs.lemmas.Bool.{cond-true, cond-false, le-leb, lt-leb, ne_eqb}
 use Rattle.std.specs.declared.alloc.AllocError.{AllocError}
 use Rattle.sheet.specs.declared.stops.Ran.{Ran}
 use Rattle.sheet.specs.declared.stops.Stop.{Stop}
 use Rattle.sheet.specs.declared.stops.Stop.TheVariants as is
 use Rattle.parts.specs.Parts.{parted, first_length}
-use Rattle.sheet.specs.Sheets.{Stage, Came, Went, Stopped, Run, ended, stopped_at, before, go_on, line_does, lines_run}
+use Rattle.sheet.specs.Sheets.{Stage, Came, Went, Run, stopped_at, before, go_on, line_does, lines_run}
 use Rattle.sheet.specs.Views.{run_by, refused_in, CameBy, StoppedBy}
 use Rattle.parts.proofs.Cuts.{parts_cut, parts_last, parts_some}
 

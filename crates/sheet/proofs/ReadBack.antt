@@ -1,9 +1,9 @@
 -- What is printed is read back.
-use Rattle.std.proofs.Common.{◌≡◌, ℕ, suc, ◌+◌, ◌-◌, ◌*◌, ◌/◌, ◌%◌, ◌<◌, ◌≤◌, Bool, true, false, cond, ◌&&◌, eqb, leb, List, [], ◌∷◌, ◌++◌, length, Some, Ok, decimal, sym, refl, ap, ◌∙◌, arith, leb-false, leb-true}
+use Rattle.std.proofs.Common.{◌≡◌, ℕ, ◌+◌, ◌-◌, ◌*◌, ◌/◌, ◌%◌, ◌<◌, ◌≤◌, Bool, true, false, eqb, leb, List, [], ◌∷◌, ◌++◌, length, Some, Ok, decimal, refl, ap, ◌∙◌, arith, leb-false, leb-true}
 use Rattle.std.proofs.lemmas.Fmt.{decimal_digit, decimal_step}
-use Rattle.std.proofs.lemmas.Bool.{le-leb, lt-leb, cond-true}
+use Rattle.std.proofs.lemmas.Bool.{le-leb}
 use Rattle.std.proofs.lemmas.Bool.Decides.{nat_tests}
-use Rattle.hex_pairs.specs.Hex.{Bytes, hex_digit, hex_text, hex_bytes, digit_value, byte_of}
+use Rattle.hex_pairs.specs.Hex.{Bytes, hex_digit, hex_text, digit_value, byte_of}
 use Rattle.hex_pairs.proofs.ReadBack.{reads_back}
 use Rattle.sheet.specs.declared.faults.FieldFault.TheVariants as fault
 use Rattle.sheet.specs.Fields.{number_of, digits_after, bytes_in, draw_of, or_fault, word_from}

@@ -1,5 +1,5 @@
 -- Lines: what each says.
-use Rattle.std.specs.Prelude.{ℕ, Bool, cond, List, [], ◌∷◌, length, Some, None, Ok, Err, codes, Option, Result, ◌==◌}
+use Rattle.std.specs.Prelude.{ℕ, cond, List, length, Some, None, Ok, Err, codes, Option, Result, ◌==◌}
 use Rattle.std.specs.Str.{bytes_eq}
 use Rattle.parts.specs.Parts.{parted, field_at}
 use Rattle.typeb.specs.CheckBytes.{sealed}

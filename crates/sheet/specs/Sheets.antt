@@ -1,5 +1,5 @@
 -- What the lines of a sheet do, one after another, and what the run prints.
-use Rattle.std.specs.Prelude.{ℕ, ◌+◌, ◌-◌, Bool, cond, List, [], ◌∷◌, ◌++◌, map, length, replicate, Some, None, Ok, Err, Option, Result, ◌==◌, nat_le, nat_lt}
+use Rattle.std.specs.Prelude.{ℕ, ◌+◌, ◌-◌, cond, List, [], ◌∷◌, ◌++◌, map, length, replicate, Some, None, Ok, Err, Option, Result, ◌==◌, nat_le, nat_lt}
 use Rattle.tags.specs.Common.{Shown}
 use Rattle.tags.specs.Gauge.{GaugeMeaning, gauge_acts}
 use Rattle.tags.specs.Pump.{PumpMeaning, pump_acts}

@@ -1,5 +1,5 @@
 -- How a pump tag conducts itself.
-use Rattle.std.proofs.Common.{◌≡◌, ℕ, ◌%◌, ◌<◌, Bool, true, false, cond, not, ◌&&◌, eqb, ltb, List, [], ◌∷◌, length, replicate, Some, None, Option, sym, refl, ap, ◌∙◌, ap₂, ⊎_elim, arith, lit<}
+use Rattle.std.proofs.Common.{◌≡◌, ℕ, ◌%◌, Bool, true, false, cond, not, ◌&&◌, eqb, ltb, List, [], ◌∷◌, replicate, Some, None, Option, sym, refl, ap, ◌∙◌, ap₂, ⊎_elim, arith, lit<}
 use Rattle.std.specs.Str.{bytes_eq}
 use Rattle.std.proofs.lemmas.Bool.{cond-false, cases_Bool, false≢true, eqb-true, eq-eqb}
 use Rattle.typeb.specs.declared.frames.Op.{Op}
@@ -11,11 +11,11 @@ use Rattle.tags.specs.declared.link.Link.{Link}
 use Rattle.tags.specs.declared.link.State.{State}
 use Rattle.tags.specs.declared.link.State.TheVariants.{Off, Idle, Requested, Declared, Halted, Active}
 use Rattle.tags.specs.Common.{reacts_by, by_link, with_opened}
-use Rattle.tags.specs.Conduct.{Conduct, Power, Writes, Openness, Deafness, ReadsBack, PasswordCounts, Conversation, after_all, checking_op, is_check, speaks, checks_now, noted, verdicts_of, last_of, passes_by, not_declared}
+use Rattle.tags.specs.Conduct.{Conduct, Power, Writes, Openness, Deafness, ReadsBack, PasswordCounts, Conversation, checking_op, is_check, speaks, checks_now, noted, verdicts_of, last_of, passes_by, not_declared}
 use Rattle.tags.specs.Links.{LinkHears, link_hears, listens, hears_marker, is_declared, is_active, is_off, powered, answers_to}
 use Rattle.tags.specs.Links as links
 use Rattle.tags.specs.Pages.{serial_in, unlocked}
-use Rattle.tags.specs.Pump.{PumpMeaning, PumpSized, pump_acts, pump_obeys, pump_reads, pump_writes, pump_locks, pump_checks, pump_counts, asks, passes, page_of, with_page}
+use Rattle.tags.specs.Pump.{PumpMeaning, pump_acts, pump_obeys, pump_reads, pump_writes, pump_checks, asks, passes, page_of, with_page}
 use Rattle.tags.specs.Reacts.{Reaction, answered, unmoved, replies, says_at}
 use Rattle.tags.specs.Rules.{reading_of, writing_of, ever_read, read_now, by_write}
 use Rattle.tags.specs.Says.{Says, Page, Acknowledged, Refused}

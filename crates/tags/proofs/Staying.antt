@@ -9,8 +9,7 @@ use Rattle.tags.specs.declared.link.Link.{Link}
 use Rattle.tags.specs.declared.link.State.{State}
 use Rattle.tags.specs.declared.link.State.TheVariants.{Off, Idle, Requested, Declared, Halted, Active}
 use Rattle.tags.specs.Common.{is_off_tag, reacts_by, with_opened}
-use Rattle.tags.specs.Links.{LinkHears, link_hears, hears_marker, listens, dismissed, requested, drawn, is_off, is_declared, is_active, answers_to}
-use Rattle.tags.specs.Links as links
+use Rattle.tags.specs.Links.{LinkHears, link_hears, hears_marker, listens, dismissed, requested, drawn, is_off, is_declared, answers_to}
 use Rattle.tags.specs.Pages.{serial_in, application_in}
 use Rattle.tags.specs.Pump.{PumpMeaning, pump_acts, pump_obeys, passes}
 use Rattle.tags.specs.Reacts.{Reaction, answered, unmoved, replies}

@@ -1,10 +1,9 @@
 -- Twelve edge cases, in one table: what the definitions give, and what the data sheet and the standard want.
-use Rattle.std.specs.Prelude.{◌≡◌, ℕ, ◌+◌, Bool, true, false, List, [], ◌∷◌, ◌++◌, map, take, drop, replicate}
+use Rattle.std.specs.Prelude.{◌≡◌, ℕ, Bool, true, false, List, [], ◌∷◌, ◌++◌, map, replicate}
 use Rattle.typeb.specs.CheckBytes.{check_bytes, sealed}
 use Rattle.tags.specs.declared.link.State.{State}
 use Rattle.tags.specs.declared.link.State.TheVariants.{Idle, Declared, Active}
 use Rattle.tags.specs.Links.{drawn}
-use Rattle.tags.specs.Pages.{page_at}
 use Rattle.tags.specs.Pump.{PumpMeaning, pump_acts}
 
 pub record Edge : Type 0 where

@@ -9,7 +9,7 @@ use Rattle.tags.specs.Common.{is_off_tag}
 use Rattle.tags.specs.Reacts.{Reaction}
 use Rattle.tags.specs.Pump.{PumpMeaning, pump_acts, pump_obeys, pump_reads, pump_checks, passes}
 use Rattle.tags.specs.Gauge.{gauge_acts, gauge_obeys, gauge_reads}
-use Rattle.tags.specs.Twinned.{closed, twins, Same}
+use Rattle.tags.specs.Twinned.{closed, twins}
 use Rattle.tags.specs.Alike.{Blind, duties_by}
 
 -- a test that chooses between accepting and not accepting has failed where nothing was accepted

@@ -1,5 +1,5 @@
 -- What every kind's duties rest on: tags by their parts, hearing by reading and reacting, and the link of an off tag.
-use Rattle.std.specs.Prelude.{◌≡◌, ℕ, Bool, true, false, cond, ◌&&◌, List, [], Some, None, Option, ◌==◌, refl}
+use Rattle.std.specs.Prelude.{◌≡◌, ℕ, Bool, true, false, ◌&&◌, List, [], Some, None, Option, ◌==◌, refl}
 use Rattle.std.proofs.Common.{sym, ap, ◌∙◌, subst}
 use Rattle.std.specs.Str.{bytes_eq}
 use Rattle.std.proofs.lemmas.Bool.{false≢true, cond-false}
@@ -7,7 +7,7 @@ use Rattle.typeb.specs.Hears.{Heard, Request, SlotMarker, Attrib, Halt, Command,
 use Rattle.tags.specs.declared.link.Link.{Link}
 use Rattle.tags.specs.declared.link.State.{State}
 use Rattle.tags.specs.declared.link.State.TheVariants.{Off, Idle, Requested, Declared, Halted, Active}
-use Rattle.tags.specs.Kinds.{Meaning, Hears, Alike, Twins}
+use Rattle.tags.specs.Kinds.{Meaning, Twins}
 use Rattle.tags.specs.Links.{LinkHears, is_off, is_declared, is_active, answers_to, listens, link_hears, hears_request, hears_marker, hears_attrib, hears_halt}
 use Rattle.tags.specs.Links as links
 use Rattle.tags.specs.Says.{Answer, protocol_info, reply_bytes}

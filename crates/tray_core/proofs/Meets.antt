@@ -1,5 +1,5 @@
 -- Replies meet in any grouping and order, silence adds nothing, and they are heard by their number.
-use Rattle.std.proofs.Common.{◌≡◌, ℕ, suc, ◌+◌, List, [], ◌∷◌, length, sym, refl, ap, ◌∙◌, add_assoc, add_comm, arith}
+use Rattle.std.proofs.Common.{◌≡◌, ℕ, List, [], ◌∷◌, sym, refl, ap, ◌∙◌, add_comm, arith}
 use Rattle.tray_core.specs.Sounds.{Sounds, Silence, Reply, Clash, Meeting, meet, together, voices, audible, count_replies}
 
 pub grouping : (x y z : Sounds) → meet (meet x y) z ≡ meet x (meet y z)

@@ -1,10 +1,10 @@
 -- A round slot by slot, and a stock round by round: what is left of the script from here gives the whole.
-use Rattle.std.proofs.Common.{◌≡◌, ℕ, zero, suc, ◌+◌, ◌-◌, ◌*◌, ◌<◌, ◌≤◌, Bool, true, false, cond, eqb, List, [], ◌∷◌, length, get_or, take, drop, sym, refl, ap, ◌∙◌, arith}
+use Rattle.std.proofs.Common.{◌≡◌, ℕ, suc, ◌+◌, ◌-◌, ◌<◌, ◌≤◌, Bool, true, false, cond, List, [], length, get_or, drop, sym, refl, ap, ◌∙◌, arith}
 use Rattle.std.proofs.lemmas.List.{drop_all, drop-drop, drop_more}
 use Rattle.tags.specs.Kinds.{Behaviour}
 use Rattle.tray_core.specs.declared.progress.Progress.{Progress}
-use Rattle.tray_core.specs.Scripts.{Script, done, send, played, after_play, SameEnd}
-use Rattle.tray_core.specs.Stock.{Tally, slot, slots, rounds, round_frames, next_round, stocktaking}
+use Rattle.tray_core.specs.Scripts.{Script, done, played, after_play, SameEnd}
+use Rattle.tray_core.specs.Stock.{Tally, slot, slots, rounds, round_frames, next_round}
 use Rattle.tray_core.specs.Trays.{Model}
 use Rattle.tray_core.specs.Views.{GoesOn}
 

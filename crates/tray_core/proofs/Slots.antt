@@ -1,11 +1,11 @@
 -- Steps of a stock: frames keep the rows' lengths, a serial number noted, a slot played.
-use Rattle.std.proofs.Common.{◌≡◌, ℕ, ◌+◌, ◌-◌, ◌<◌, ◌≤◌, Bool, true, false, cond, ◌&&◌, leb, List, [], ◌∷◌, ◌++◌, map, length, take, drop, set, sym, refl, ap, ◌∙◌, arith}
+use Rattle.std.proofs.Common.{◌≡◌, ℕ, ◌+◌, ◌-◌, ◌<◌, Bool, true, false, List, length, take, set, sym, refl, ap, ◌∙◌, arith}
 use native.Mathlib.Nat.{sub-zero}
 use Rattle.std.proofs.lemmas.List.{length-map, take_more_set, drop-set-lt}
 use Rattle.std.proofs.lemmas.Bool.{cond-true, cond-false}
 use Rattle.tags.specs.Kinds.{Behaviour}
-use Rattle.tray_core.specs.Rows.{Post, if_here, hearing, row_hears}
-use Rattle.tray_core.specs.Stock.{lists, joins}
+use Rattle.tray_core.specs.Rows.{Post}
+use Rattle.tray_core.specs.Stock.{lists}
 use Rattle.tray_core.specs.Trays.{Model, rows_fit, after_frame}
 use Rattle.tray_core.specs.Views.{NotedIn}
 

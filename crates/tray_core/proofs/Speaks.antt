@@ -1,11 +1,9 @@
 -- The frames of a stock, and a serial number looked up in a list.
-use Rattle.std.proofs.Common.{◌≡◌, ℕ, suc, ◌+◌, ◌-◌, ◌<◌, ◌≤◌, Bool, true, false, ◌||◌, leb, List, [], ◌∷◌, ◌++◌, map, length, get_or, take, drop, Ok, Err, Result, sym, refl, ap, ◌∙◌, arith}
-use Rattle.std.specs.List.{range_with_len}
+use Rattle.std.proofs.Common.{◌≡◌, ℕ, suc, ◌+◌, ◌-◌, ◌<◌, ◌≤◌, Bool, true, false, ◌||◌, leb, List, [], length, get_or, take, drop, Ok, Err, Result, sym, refl, ap, ◌∙◌, arith}
 use Rattle.std.specs.Str.{bytes_eq}
 use Rattle.std.proofs.lemmas.List.FromFn.{get_or-map-range_with_len}
 use Rattle.std.proofs.lemmas.List.{take_at, at_drop_more, at_drop_all}
 use Rattle.std.proofs.lemmas.Bool.{le-leb}
-use Rattle.refusals.specs.Numbers.{asked}
 use Rattle.typeb.proofs.Buffers.{length_sealed}
 use Rattle.reader.specs.Commands.{Asked, SlotMarker, body_for, buffer_for, frame_for, in_range, made_for}
 use Rattle.tray_core.specs.Stock.{lists, round_frames}

@@ -6,8 +6,8 @@ use Rattle.tags.specs.Kinds.{Behaviour}
 use Rattle.tray_core.specs.declared.calls.Answer.TheVariants as answer
 use Rattle.tray_core.specs.declared.progress.Progress.{Progress}
 use Rattle.tray_core.specs.Scripts.{done, SameEnd}
-use Rattle.tray_core.specs.Step.{Stepped, Stock, Outcome, does, figures, refused_by, step, unless_refused}
-use Rattle.tray_core.specs.Stock.{Tally, stocktaking}
+use Rattle.tray_core.specs.Step.{Stepped, Stock, does, figures, refused_by, step, unless_refused}
+use Rattle.tray_core.specs.Stock.{stocktaking}
 use Rattle.tray_core.specs.Trays.{Model, rows_fit}
 use Rattle.tray_core.specs.Views.{tally_of}
 

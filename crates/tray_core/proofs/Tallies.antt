@@ -1,5 +1,5 @@
 -- What holds of the count of every stock, whatever the reader hears.
-use Rattle.std.proofs.Common.{◌≡◌, ℕ, zero, suc, ◌+◌, ◌*◌, ◌≤◌, Bool, true, false, cond, ◌||◌, List, [], ◌∷◌, ◌++◌, map, length, Some, None, Decides, Option, sym, refl, ap, ◌∙◌, arith, lit≤}
+use Rattle.std.proofs.Common.{◌≡◌, ℕ, zero, suc, ◌+◌, ◌*◌, ◌≤◌, Bool, true, false, cond, List, [], ◌∷◌, ◌++◌, length, Some, None, Option, sym, refl, ◌∙◌, arith, lit≤}
 use Rattle.std.specs.Str.{bytes_eq}
 use Rattle.std.proofs.lemmas.Slice.Eq.{bytes_eq-Decides}
 use Rattle.std.proofs.lemmas.List.{length_push}
@@ -8,7 +8,7 @@ use Rattle.std.proofs.lemmas.Bool.Decides.{same_from_decides, Decides-like}
 use Rattle.tags.specs.Kinds.{Behaviour}
 use Rattle.tray_core.specs.Scripts.{Script, done, send, played}
 use Rattle.tray_core.specs.Sounds.{Sounds, Silence, Reply, Clash}
-use Rattle.tray_core.specs.Stock.{Tally, Fair, Once, lists, joins, nothing, sent, next_round, clashed, loud, noted, answering, halting, in_slot, slot, slots, rounds, round_frames, stocktaking}
+use Rattle.tray_core.specs.Stock.{Tally, Fair, Once, lists, nothing, sent, next_round, clashed, loud, noted, answering, halting, in_slot, slots, rounds, round_frames, stocktaking}
 use Rattle.tray_core.specs.Trays.{Model, sounds_of, after_frame}
 
 -- a serial number that is not in a list joins it at its end

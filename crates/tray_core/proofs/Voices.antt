@@ -1,8 +1,8 @@
 -- A reply of one byte or more is heard as it was placed in the buffer.
-use Rattle.std.proofs.Common.{◌≡◌, ℕ, ◌≤◌, List, [], ◌∷◌, ◌++◌, length, take, drop, sym, refl, ap, ◌∙◌, arith}
+use Rattle.std.proofs.Common.{◌≡◌, ℕ, List, [], ◌∷◌, length, take, drop, sym, refl, ap, ◌∙◌}
 use Rattle.std.proofs.lemmas.List.{take_at}
 use Rattle.tags.specs.Kinds.{Placed}
-use Rattle.tray_core.specs.Sounds.{Sounds, Reply, Silence, voice}
+use Rattle.tray_core.specs.Sounds.{Reply, voice}
 
 heard_as_lem : (reply : List ℕ) (n : ℕ) → n ≡ length reply → (n ≡ 0 → ⊥) → Reply reply ≡ voice reply
 heard_as_lem [] n e some = absurd (some e)

@@ -1,11 +1,10 @@
 -- The law over every run: no sequence of calls shows what a closed tag hides, undoes a lock or loses a count;
 -- and a tag has power exactly when it is on the tray and the field is on.
 use Rattle.std.specs.Prelude.{◌≡◌, ℕ, zero, suc, ◌+◌, ◌<◌, ◌≤◌, Bool, true, false, cond, not, ◌&&◌, List, [], ◌∷◌, ◌++◌, length, replicate, Some, None, Ok, Option}
-use Rattle.typeb.specs.declared.frames.Op.{Op}
 use Rattle.typeb.specs.declared.frames.Op.TheVariants as op
 use Rattle.typeb.specs.Hears as hears
 use Rattle.typeb.specs.Hears.{Heard, heard}
-use Rattle.tags.specs.Kinds.{Meaning, Behaviour}
+use Rattle.tags.specs.Kinds.{Behaviour}
 use Rattle.tags.specs.Common.{Shown, is_off_tag, reacts_by}
 use Rattle.tags.specs.Making.{new_pump, pump_made}
 use Rattle.tags.specs.Pages.{lock_bit, counter_in, serial_in}

@@ -1,10 +1,10 @@
 -- Runs: a list of calls, each with a buffer and a list of its own.
-use Rattle.std.specs.Prelude.{◌≡◌, ℕ, zero, suc, Bool, false, cond, List, [], ◌∷◌, ◌++◌, Some, None, Option, Result}
-use Rattle.tags.specs.Kinds.{Meaning, Behaviour, Twins}
+use Rattle.std.specs.Prelude.{◌≡◌, ℕ, zero, suc, Bool, false, cond, List, [], ◌∷◌, Some, None, Option, Result}
+use Rattle.tags.specs.Kinds.{Behaviour, Twins}
 use Rattle.tray_core.specs.declared.calls.Answer.{Answer}
 use Rattle.tray_core.specs.Rows.{Post, accepts_at}
 use Rattle.tray_core.specs.Scripts.{Script, done, send}
-use Rattle.tray_core.specs.Stock.{Tally, stocktaking}
+use Rattle.tray_core.specs.Stock.{stocktaking}
 use Rattle.tray_core.specs.Step.{Asks, On, Off, Place, Lift, Frame, Stock, Outcome, refused_by, step}
 use Rattle.tray_core.specs.Trays.{Model, after_frame, sounds_of}
 

@@ -1,5 +1,5 @@
 -- What a reader hears after a frame, and how replies meet on the air.
-use Rattle.std.specs.Prelude.{◌≡◌, ℕ, ◌+◌, List, [], ◌∷◌, ◌++◌, length}
+use Rattle.std.specs.Prelude.{◌≡◌, ℕ, ◌+◌, List, [], ◌∷◌, length}
 
 -- Nothing, one reply, or a clash of so many.
 pub data Sounds : Type 0 where

@@ -1,5 +1,5 @@
 -- The six calls of a tray: when one is refused, what it answers, and what it leaves.
-use Rattle.std.specs.Prelude.{◌≡◌, ℕ, Bool, true, cond, List, [], ◌∷◌, ◌++◌, length, drop, Some, None, Ok, Err, Option, Result, nat_le}
+use Rattle.std.specs.Prelude.{◌≡◌, ℕ, cond, List, ◌++◌, length, drop, Some, None, Ok, Err, Option, Result, nat_le}
 use Rattle.refusals.specs.declared.Refusal.{Refusal}
 use Rattle.refusals.specs.Numbers.{number}
 use Rattle.tags.specs.Kinds.{Behaviour}
@@ -7,7 +7,7 @@ use Rattle.tray_core.specs.declared.calls.Answer.{Answer}
 use Rattle.tray_core.specs.declared.calls.Answer.TheVariants as answer
 use Rattle.tray_core.specs.declared.calls.Call.{Call}
 use Rattle.tray_core.specs.declared.calls.Call.TheVariants as call
-use Rattle.tray_core.specs.Scripts.{Script, done, send, played, after_play}
+use Rattle.tray_core.specs.Scripts.{played, after_play}
 use Rattle.tray_core.specs.Sounds.{Sounds, Silence, Reply, Clash}
 use Rattle.tray_core.specs.Stock.{Tally, stocktaking}
 use Rattle.tray_core.specs.Trays.{Model, rows_fit, names, turned_on, turned_off, with_placed, with_lifted, after_frame, sounds_of}

@@ -1,5 +1,5 @@
--- Three stocks that can be worked out by hand, before pump tags with the field on.
-use Rattle.std.specs.Prelude.{◌≡◌, ℕ, true, false, List, [], ◌∷◌, map, length, replicate}
+-- Four stocks that can be worked out by hand, before pump tags with the field on.
+use Rattle.std.specs.Prelude.{◌≡◌, ℕ, true, false, List, [], ◌∷◌, map, replicate}
 use Rattle.tags.specs.declared.link.State.{State}
 use Rattle.tags.specs.declared.link.State.TheVariants.{Idle, Halted}
 use Rattle.tags.specs.Common.{Shown}

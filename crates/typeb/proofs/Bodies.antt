@@ -1,9 +1,9 @@
 -- The two longest readings of a body, from what a slice pattern has tested.
-use Rattle.std.proofs.Common.{◌≡◌, ℕ, ◌+◌, ◌-◌, ◌/◌, ◌%◌, ◌<◌, ◌≤◌, Bool, true, false, cond, eqb, ltb, leb, List, [], ◌∷◌, length, get_or, take, drop, Some, None, sym, refl, ap, ◌∙◌, arith, length-drop, length-take}
+use Rattle.std.proofs.Common.{◌≡◌, ℕ, ◌-◌, ◌/◌, ◌%◌, ◌≤◌, true, false, eqb, leb, List, [], ◌∷◌, length, take, drop, Some, None, refl, ap, ◌∙◌, arith, length-drop, length-take}
 use Rattle.std.proofs.lemmas.List.{take_all, take_rest}
-use Rattle.std.proofs.lemmas.Bool.{eq-eqb, ne_eqb, le-leb, lt-leb}
+use Rattle.std.proofs.lemmas.Bool.{eq-eqb, ne_eqb, le-leb}
 use Rattle.typeb.specs.declared.frames.Op.{Op}
-use Rattle.typeb.specs.Hears.{Heard, Attrib, Command, in_body, op_of, at}
+use Rattle.typeb.specs.Hears.{Attrib, Command, in_body, op_of, at}
 use Rattle.typeb.proofs.Parts.{take_four}
 
 pub attrib_heard : (b : List ℕ) → 9 ≤ length b → length (take (length b - 9) (drop 9 b)) ≤ 5 → at 0 b ≡ 0x1D

@@ -1,5 +1,5 @@
 -- How the check bytes of a worked example are judged.
-use Rattle.std.specs.Prelude.{ℕ, Bool, cond, not, List, ◌++◌, codes, bit_xor, slice_index, slice_set}
+use Rattle.std.specs.Prelude.{ℕ, cond, List, ◌++◌, codes, bit_xor, slice_index, slice_set}
 use Rattle.std.specs.Str.{bytes_eq}
 use Rattle.hex_pairs.specs.Hex.{hex_text}
 use Rattle.typeb.specs.CheckBytes.{check_bytes, sealed, sound}

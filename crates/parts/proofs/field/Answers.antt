@@ -1,4 +1,4 @@
-use Rattle.std.proofs.Common.{◌≡◌, ℕ, ◌+◌, ◌-◌, List, [], ◌∷◌, length, take, drop, sym, refl, ap, ◌∙◌, arith, length-drop, length-take}
+use Rattle.std.proofs.Common.{◌≡◌, ℕ, ◌-◌, List, [], take, sym, ap, ◌∙◌, arith, length-drop, length-take}
 use Rattle.parts.specs.Parts.{parted, field_at, first_length}
 use Rattle.parts.proofs.Cuts.{parts_cut, parts_last, part_first, field_past, field_none, nothing_left}
 use Rattle.parts.proofs.field.Goals as goal

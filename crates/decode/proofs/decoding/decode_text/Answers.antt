@@ -1,4 +1,4 @@
-use Rattle.std.proofs.Common.{◌≡◌, ℕ, ◌+◌, ◌-◌, List, [], ◌∷◌, ◌++◌, length, take, drop, string_bytes, sym, ap, ◌∙◌, arith, length-drop, length-take}
+use Rattle.std.proofs.Common.{ℕ, ◌-◌, List, ◌++◌, take, string_bytes, sym, ap, ◌∙◌, arith, length-drop, length-take}
 use Rattle.decode.specs.Lines.{line_bytes}
 use Rattle.decode.specs.Report.{reported, faulted, all_reports, all_faults}
 use Rattle.decode.proofs.Cutting.{lines_cut, lines_last, written_then, written_last}

@@ -1,4 +1,3 @@
-use Rattle.std.proofs.Common.{arith}
 use Rattle.tags.proofs.Lists.{placed_by}
 use Rattle.reader.proofs.making.put.Goals as goal
 

@@ -1,9 +1,9 @@
-use Rattle.std.proofs.Common.{◌≡◌, ℕ, ◌+◌, ◌-◌, ◌*◌, ◌^◌, true, false, cond, ◌&&◌, leb, List, get_or, drop, Some, None, Option, sym, ap, ◌∙◌, arith}
+use Rattle.std.proofs.Common.{◌≡◌, ℕ, ◌+◌, ◌-◌, ◌*◌, ◌^◌, true, false, cond, ◌&&◌, leb, List, get_or, drop, None, sym, ap, ◌∙◌, arith}
 use Rattle.std.proofs.lemmas.List.{at_drop_more, at_drop_all}
 use Rattle.std.proofs.lemmas.Bool.{cond-false, cond-true}
 use Rattle.std.proofs.lemmas.Bool.Decides.{nat_tests}
 use Rattle.sheet.specs.Fields.{digits_after}
-use Rattle.sheet.proofs.Digits.{power_more, power_small}
+use Rattle.sheet.proofs.Digits.{power_more}
 use Rattle.sheet.proofs.fields.digits_value.Goals as goal
 
 pub loop-c-preserved : goal.loop-c-preserved

@@ -1,4 +1,4 @@
-use Rattle.std.proofs.Common.{◌≡◌, ℕ, ◌+◌, ◌-◌, ◌*◌, ◌≤◌, List, [], ◌∷◌, length, take, drop, sym, refl, ap, ◌∙◌, arith, length-set, ltb-false, ltb-true}
+use Rattle.std.proofs.Common.{ℕ, ◌+◌, ◌-◌, ◌*◌, ◌≤◌, List, length, take, drop, sym, refl, ap, ◌∙◌, arith, length-set, ltb-false, ltb-true}
 use Rattle.std.proofs.lemmas.List.{take_more_set}
 use Rattle.hex_pairs.specs.Hex.{hex_bytes}
 use Rattle.sheet.proofs.Digits.{followed, followed_more, followed_none, pair_read, rest_length}

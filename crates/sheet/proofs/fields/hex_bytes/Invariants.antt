@@ -1,5 +1,5 @@
 -- The bytes that were read, before those of the rest, are the bytes of the field.
-use Rattle.std.proofs.Common.{◌≡◌, ◌+◌, ◌*◌, ◌≤◌, length, take}
+use Rattle.std.proofs.Common.{◌≡◌, ◌+◌, ◌*◌, length, take}
 use Rattle.hex_pairs.specs.Hex.{hex_bytes}
 use Rattle.sheet.proofs.Digits.{followed}
 use Rattle.sheet.proofs.fields.hex_bytes.Given as goal

@@ -1,4 +1,4 @@
-use Rattle.std.proofs.Common.{◌≡◌, ◌+◌, length, take, refl, ap, ◌∙◌, arith}
+use Rattle.std.proofs.Common.{◌≡◌, ◌+◌, length, take, refl, ap, ◌∙◌}
 use Rattle.typeb.specs.CheckBytes.{sealed}
 use Rattle.sheet.proofs.Digits.{in_sixteen}
 use Rattle.sheet.proofs.lines.sealed_body.Goals as goal

@@ -1,6 +1,6 @@
-use Rattle.std.proofs.Common.{◌≡◌, ℕ, ◌+◌, ◌-◌, List, ◌++◌, length, take, drop, string_bytes, sym, refl, ap, ◌∙◌, arith, length-drop, length-take}
+use Rattle.std.proofs.Common.{ℕ, ◌-◌, List, ◌++◌, take, string_bytes, sym, ap, ◌∙◌, arith, length-drop, length-take}
 use Rattle.parts.specs.Parts.{parted}
-use Rattle.sheet.specs.Sheets.{before, stopped_at, lines_run, line_does}
+use Rattle.sheet.specs.Sheets.{before, stopped_at, line_does}
 use Rattle.sheet.specs.Views.{stage_of}
 use Rattle.sheet.proofs.Ran.{behind_line, onward, line_done, line_long, line_unended, lines_done, line_went, ran_then, stopped_then}
 use Rattle.sheet.proofs.running.run_lines.Goals as goal

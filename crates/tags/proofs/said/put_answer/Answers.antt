@@ -1,4 +1,4 @@
-use Rattle.std.proofs.Common.{arith, rules}
+use Rattle.std.proofs.Common.{rules}
 use Rattle.tags.proofs.Lists.{listed}
 use Rattle.tags.proofs.said.put_answer.Goals as goal
 

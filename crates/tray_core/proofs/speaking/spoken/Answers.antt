@@ -1,4 +1,4 @@
-use Rattle.std.proofs.Common.{replicate, refl, lit≤}
+use Rattle.std.proofs.Common.{replicate, refl}
 use Rattle.reader.specs.Commands.{asked_of}
 use Rattle.tray_core.proofs.Speaks.{made_short, made_frame, not_refused}
 use Rattle.tray_core.proofs.speaking.spoken.Goals as goal

@@ -1,5 +1,4 @@
-use Rattle.std.proofs.Common.{◌≡◌, ℕ, ◌-◌, true, leb, List, length, sym, ap, ◌∙◌, arith, length-take, rules, ltb-false, ltb-true}
-use Rattle.std.proofs.lemmas.Bool.{le-leb}
+use Rattle.std.proofs.Common.{◌≡◌, ℕ, ◌-◌, true, leb, List, length, arith, length-take, ltb-false, ltb-true}
 use Rattle.std.proofs.lemmas.Bool.Decides.{nat_tests}
 use Rattle.typeb.specs.CheckBytes.{sound}
 use Rattle.typeb.proofs.Parts.{drop_two}

@@ -1,6 +1,5 @@
 use Rattle.std.proofs.Common.{replicate, ap}
 use Rattle.tags.specs.Pump.{PumpMeaning}
-use Rattle.sheet.specs.Drafts.{Draft}
 use Rattle.sheet.proofs.drafts.PumpDraft.blank.Goals as goal
 
 pub returns : goal.returns

@@ -1,5 +1,4 @@
-use Rattle.std.proofs.Common.{◌≡◌, ℕ, ◌<◌, [], length, take, refl, ap, ◌∙◌, arith}
-use native.Mathlib.Nat.{min-le_right}
+use Rattle.std.proofs.Common.{◌≡◌, ◌<◌, [], length, refl, ap, ◌∙◌, arith}
 use Rattle.std.specs.List.{flat_map}
 use Rattle.std.proofs.Output.{has_written_of_eq, has_written_append}
 use Rattle.sheet.specs.Printing.{serial_line}

@@ -1,6 +1,6 @@
-use Rattle.std.proofs.Common.{ℕ, List, [], map, vec_items, ap, ◌∙◌}
+use Rattle.std.proofs.Common.{[], map, vec_items, ap, ◌∙◌}
 use Rattle.sheet.specs.declared.words.TagKind.{TagKind}
-use Rattle.sheet.specs.Drafts.{Draft, pump_draft, gauge_draft, blank_pump, blank_gauge}
+use Rattle.sheet.specs.Drafts.{pump_draft, gauge_draft, blank_pump, blank_gauge}
 use Rattle.sheet.specs.Sheets.{Went, Naming, named}
 use Rattle.sheet.specs.Views.{named_stage}
 use Rattle.sheet.proofs.Drafted.{row_more}

@@ -1,4 +1,4 @@
-use Rattle.std.proofs.Common.{List, map, vec_items, ap, ◌∙◌}
+use Rattle.std.proofs.Common.{map, vec_items, ap, ◌∙◌}
 use Rattle.tags.specs.Gauge.{gauge_means}
 use Rattle.tags.specs.Pump.{pump_means}
 use Rattle.tray_core.specs.Trays.{loaded_with}

@@ -1,4 +1,4 @@
-use Rattle.std.proofs.Common.{◌≡◌, true, eqb, sym, subst}
+use Rattle.std.proofs.Common.{◌≡◌, true, eqb}
 use Rattle.std.proofs.lemmas.Bool.{eq-eqb}
 use Rattle.tags.proofs.pump.PumpTagReact.react.Goals as goal
 

@@ -1,4 +1,4 @@
-use Rattle.std.proofs.Common.{◌≡◌, ℕ, ◌<◌, ◌≤◌, refl, subst, arith, lit≤}
+use Rattle.std.proofs.Common.{◌≡◌, ℕ, ◌<◌, ◌≤◌, subst, arith}
 use Rattle.tray_core.specs.Stock.{round_frames, slots}
 use Rattle.tray_core.specs.Views.{GoesOn, begun, model_of, tally_of}
 use Rattle.tray_core.proofs.Rounds.{goes_more, no_slot_left, one_slot}

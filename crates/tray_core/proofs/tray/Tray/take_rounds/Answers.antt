@@ -1,8 +1,6 @@
-use Rattle.std.proofs.Common.{◌≡◌, ℕ, suc, ◌+◌, ◌-◌, ◌*◌, ◌<◌, ◌≤◌, false, cond, eqb, drop, refl, ◌∙◌, arith, lit≤}
+use Rattle.std.proofs.Common.{◌+◌, ◌-◌, eqb, refl, ◌∙◌, arith, lit≤}
 use Rattle.std.proofs.lemmas.Bool.{ne_eqb}
-use Rattle.tray_core.specs.Scripts.{SameEnd, done}
-use Rattle.tray_core.specs.Stock.{Tally, rounds, stocktaking}
-use Rattle.tray_core.specs.Views.{model_of, tally_of}
+use Rattle.tray_core.specs.Stock.{stocktaking}
 use Rattle.tray_core.proofs.Rounds.{drop_later, goes_on, no_round_left, one_round, silent_end}
 use Rattle.tray_core.proofs.tray.Tray.take_rounds.Goals as goal
 
