@@ -2,24 +2,27 @@
 ghost use Rattle.std.specs.Prelude.{◌≡◌, ◌+◌, ◌≤◌};
 ghost use Rattle.typeb.specs.Receives.{on_air};
 ghost use Rattle.tray_core.specs.Rows.{hearing};
-ghost use Rattle.tray_core.specs.Sounds.{Reply, meet, voice};
-ghost use Rattle.tray_core.specs.Views.{bytes_of, sounds_in, how_many};
+ghost use Rattle.tray_core.specs.Sounds.{meet, voice};
+ghost use Rattle.tray_core.specs.Views.{sounds_in, how_many};
 
 use crate::message::Message;
 use crate::sounds::Sounds;
 use tags::kind::Kind;
 use typeb::received::Received;
 
-// One more reply joins what was heard.
-fn joined_by(heard: Sounds, reply: Message) -> Sounds
-    requires { how_many heard ≤ 64 }
-    ensures result { sounds_in result ≡ meet (sounds_in heard) (Reply (bytes_of reply)) }
-    ensures count { how_many result ≡ how_many heard + 1 }
+// Two things heard at once.
+fn meet_sounds(a: Sounds, b: Sounds) -> Sounds
+    requires { (how_many a ≤ 64) × (how_many b ≤ 64) }
+    ensures result { sounds_in result ≡ meet (sounds_in a) (sounds_in b) }
+    ensures count { how_many result ≡ how_many a + how_many b }
 {
-    match heard {
-        Sounds::Silence => Sounds::Reply(reply),
-        Sounds::Reply(_) => Sounds::Clash(2),
-        Sounds::Clash(n) => Sounds::Clash(n + 1),
+    match (a, b) {
+        (Sounds::Silence, _) => b,
+        (_, Sounds::Silence) => a,
+        (Sounds::Reply(_), Sounds::Reply(_)) => Sounds::Clash(2),
+        (Sounds::Reply(_), Sounds::Clash(n)) => Sounds::Clash(n + 1),
+        (Sounds::Clash(m), Sounds::Reply(_)) => Sounds::Clash(m + 1),
+        (Sounds::Clash(m), Sounds::Clash(n)) => Sounds::Clash(m + n),
     }
 }
 
@@ -34,6 +37,6 @@ pub(crate) fn tell_tag<K: Kind>(tag: &mut K, frame: &Received<'_>, heard: &mut S
     let told = tag.hear_received(frame, &mut bytes);
     let len = told.len;
     if len > 0 {
-        *heard = joined_by(*heard, Message { bytes, len });
+        *heard = meet_sounds(*heard, Sounds::Reply(Message { bytes, len }));
     }
 }

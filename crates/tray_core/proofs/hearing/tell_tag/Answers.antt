@@ -10,7 +10,7 @@ returns-then-len-gt0 g c =
     record {
       after = told.tag_after;
       sounds =
-          c.joined_by.ensures.result
+          c.meet_sounds.ensures.result
           ∙ ap (meet (sounds_in c.args.heard.now)) (spoken _ _ _ _ told.placed (λ e. omega arith));
       count = omega arith;
     }
