@@ -11,7 +11,7 @@ use tags::kind::Kind;
 use typeb::received::Received;
 
 // Two things heard at once.
-fn meet_sounds(a: Sounds, b: Sounds) -> Sounds
+pub(crate) fn meet_sounds(a: Sounds, b: Sounds) -> Sounds
     requires { (how_many a ≤ 64) × (how_many b ≤ 64) }
     ensures result { sounds_in result ≡ meet (sounds_in a) (sounds_in b) }
     ensures count { how_many result ≡ how_many a + how_many b }
