@@ -15,7 +15,6 @@ import os
 import re
 import sys
 
-CRATES = "console decode hex hex_pairs parts reader refusals scenario sheet sheets tags tray tray_core typeb vectors".split()
 TOKEN = re.compile(r"(?m:^|(?<=\s))--(?=\s|$)[^\n]*|[^\s(){}\[\],;.\u0060]+|\.|[(){}\[\],;\u0060]|\s+")
 COMMENT = re.compile(r"(?m)(?:^|(?<=\s))--(?:\s.*)?$")
 GENERATED = re.compile(r"^(returns|loop|invariant|decreases|overflow|bounds|slice_bounds|nonzero|prove|offset|in|then|else|After|In|Then|Else)-|-(requires|init|preserved|smaller)(-|$)")
