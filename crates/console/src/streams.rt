@@ -8,9 +8,11 @@ use std::process::ExitCode;
 use std::{fs, io};
 
 // The program stops with status 1, and has said why.
+#[derive(Drop)]
 pub struct Failed;
 
-// Says on standard error why the program with this name stops.
+// Says on standard error why the program with this name stops. Here and below the runtime comes first, as in std, and the
+// name behind it: no struct holds both.
 pub fn stop(rt: &HostRuntime, program: &str, why: impl Display + Drop) -> Failed {
     let _ = eprintln!(rt; "{program}: {why}");
     Failed
@@ -20,9 +22,10 @@ pub fn stop(rt: &HostRuntime, program: &str, why: impl Display + Drop) -> Failed
 pub fn status(ended: Result<(), Failed>) -> ExitCode
     ensures { exit_status result ≡ (if is_ok ended then 0 else 1) }
 {
-    match ended {
-        Ok(()) => ExitCode::SUCCESS,
-        Err(Failed) => ExitCode::FAILURE,
+    if ended.is_ok() {
+        ExitCode::SUCCESS
+    } else {
+        ExitCode::FAILURE
     }
 }
 
@@ -47,21 +50,21 @@ pub fn read_input(
     input: &Option<String>,
 ) -> Result<Vec<u8>, Failed> {
     let Some(name) = input else {
-        return match read_stdin(rt) {
-            Ok(bytes) => Ok(bytes),
-            Err(e) => Err(stop(rt, program, format_args!("cannot read standard input: {e}"))),
-        };
+        return read_stdin(rt).map_err(|e| stop(
+            rt,
+            program,
+            format_args!("cannot read standard input: {e}"),
+        ));
     };
-    match read_named(rt, name.as_str()) {
-        Ok(bytes) => Ok(bytes),
-        Err(e) => Err(stop(rt, program, format_args!("cannot read {name}: {e}"))),
-    }
+    read_named(rt, name.as_str()).map_err(|e| stop(
+        rt,
+        program,
+        format_args!("cannot read {name}: {e}"),
+    ))
 }
 
 // Prints a whole text.
 pub fn print_all(rt: &HostRuntime, program: &str, text: &[u8]) -> Result<(), Failed> {
-    match rt.write_all(text) {
-        Ok(()) => Ok(()),
-        Err(e) => Err(stop(rt, program, format_args!("cannot write: {e}"))),
-    }
+    rt.write_all(text)
+        .map_err(|e| stop(rt, program, format_args!("cannot write: {e}")))
 }

@@ -2,7 +2,7 @@
 #![tactic(auto)]
 
 ghost use Rattle.std.specs.Prelude.{◌≡◌, ◌%◌, [], ◌∷◌, Some};
-ghost use Rattle.hex_pairs.specs.Hex.{hex_digit, hex_text, digit_value, ReadsBack, OnlyWritten, AllDigits};
+ghost use Rattle.hex_pairs.specs.Hex.{hex_digit, hex_text, digit_value, byte_of, ReadsBack, OnlyWritten, AllDigits};
 ghost use Rattle.std.specs.Fmt.{WritesOnOk};
 
 use std::fmt;
@@ -27,8 +27,14 @@ pub fn digits(byte: u8) -> [u8; 2]
 }
 
 // The value of a lower-case digit; none for any other character.
-fn value_of(c: u8) -> Option<u8>
-    ensures { result ≡ digit_value c }
+// Text read by these values gives back the bytes that it was written from, and no other text gives bytes: clauses
+// `reads_back` and `only_written`.
+#[tactic(auto, using(crate::proofs::ReadBack::reads_back, crate::proofs::ReadBack::only_written))]
+pub fn digit_value(c: u8) -> Option<u8>
+    ensures result { result ≡ digit_value c }
+    ensures reads_back { ReadsBack }
+    ensures only_written { OnlyWritten }
+    ensures all_digits { AllDigits }
 {
     match c {
         b'0'..=b'9' => Some(c - b'0'),
@@ -37,16 +43,11 @@ fn value_of(c: u8) -> Option<u8>
     }
 }
 
-// The value of a lower-case digit; none for any other character.
-// Text read by these values gives back the bytes that it was written from, and no other text gives bytes: clauses
-// `reads_back` and `only_written`.
-pub fn digit_value(c: u8) -> Option<u8>
-    ensures result { result ≡ digit_value c }
-    ensures reads_back { ReadsBack }
-    ensures only_written { OnlyWritten }
-    ensures all_digits { AllDigits }
+// The byte of two lower-case digits, that of the high nibble first; none where either is no such digit.
+pub fn pair_value(high: u8, low: u8) -> Option<u8>
+    ensures { result ≡ byte_of (digit_value high) (digit_value low) }
 {
-    value_of(c)
+    Some(digit_value(high)? * 16 + digit_value(low)?)
 }
 
 // Bytes that are shown as hex text.

@@ -9,41 +9,19 @@ pub fn first_length(mark: u8, text: &[u8]) -> usize
     ensures result { result ≡ first_length mark text.now }
     ensures within { result ≤ length text.now }
 {
-    for (i, c) in text.iter().enumerate() {
-        if *c == mark {
-            return i;
-        }
-    }
-    text.len()
+    text.iter().position(|c| *c == mark).unwrap_or(text.len())
 }
 
 // How many fields a line has.
 pub fn field_count(line: &[u8]) -> usize
     ensures { result ≡ length (parted 44 line.now) }
 {
-    let mut count = 1;
-    for c in line {
-        if *c == b',' {
-            count += 1;
-        }
-    }
-    count
+    line.split(|c| *c == b',').count()
 }
 
 // A field of a line by its number from 0; empty where there is none.
 pub fn field(line: &[u8], n: usize) -> &[u8]
     ensures { result.now ≡ field_at n (parted 44 line.now) }
 {
-    let mut rest = line;
-    let mut left = n;
-    while left > 0 {
-        let end = first_length(b',', rest);
-        if end == rest.len() {
-            return &rest[end..];
-        }
-        rest = &rest[end + 1..];
-        left -= 1;
-    }
-    let end = first_length(b',', rest);
-    &rest[0..end]
+    line.split(|c| *c == b',').nth(n).unwrap_or(&[])
 }

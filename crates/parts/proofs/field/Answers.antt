@@ -1,36 +1,21 @@
-use Rattle.std.proofs.Common.{◌≡◌, ℕ, ◌-◌, List, [], take, sym, ap, ◌∙◌, arith, length-drop, length-take}
-use Rattle.parts.specs.Parts.{parted, field_at, first_length}
-use Rattle.parts.proofs.Cuts.{parts_cut, parts_last, part_first, field_past, field_none, nothing_left}
+use Rattle.std.proofs.Common.{◌≡◌, ℕ, ◌==◌, List, [], Some, None, Option, Bor, unwrap_or, refl, ap, ◌∙◌, rules}
+use borrow.Author.Tests.{tests}
+use Rattle.std.specs.Option.{option_map}
+use Rattle.std.proofs.lemmas.Iterator.Consumers.{nth_from_yields_List}
+use Rattle.std.proofs.lemmas.Iterator.Splits.{YieldsList-from_slice_split}
+use Rattle.std.proofs.lemmas.Option.{unwrap_or-slice_get}
+use Rattle.parts.specs.Parts.{parted}
 use Rattle.parts.proofs.field.Goals as goal
 
-pub returns-then-end-rest : goal.returns-then-end-rest
-returns-then-end-rest c =
-    let rest : List ℕ = c.loop-left.rest.now in
-    let left : ℕ = c.loop-left.left in
-    nothing_left rest c.first_length-end.result c.if-end-rest.true
-    ∙ sym (field_none (left - 1))
-    ∙ sym (field_past left rest [] (omega arith))
-    ∙ ap (field_at left) (sym (parts_last 44 rest c.first_length-end.result c.first_length-end.ensures.result c.if-end-rest.true))
-    ∙ c.loop-left.invariant.0
-
-pub overflow_add-rest : goal.overflow_add-rest
-overflow_add-rest c = omega arith
-
-pub loop-left-preserved : goal.loop-left-preserved
-loop-left-preserved c =
-    let rest : List ℕ = c.loop-left.rest.now in
-    let left : ℕ = c.loop-left.left in
-    let cut = parts_cut 44 rest c.first_length-end.result c.first_length-end.ensures.result c.first_length-end.ensures.within c.if-end-rest.false in (
-      sym (field_past left _ _ (omega arith)) ∙ ap (field_at left) (sym cut) ∙ c.loop-left.invariant.0,
-      simp (length-take, length-drop) (omega arith),
-    )
+-- a part, or else one that is empty
+part_or : (o : Option (Bor (List ℕ))) (r empty : Bor (List ℕ)) → r ≡ unwrap_or o empty → empty.now ≡ [] → r.now ≡ unwrap_or (option_map (λ part. part.now) o) []
+part_or None r empty e none = ap (λ (part : Bor (List ℕ)). part.now) e ∙ none
+part_or (Some part) r empty e none = ap (λ (part : Bor (List ℕ)). part.now) e
 
 pub returns : goal.returns
 returns c =
-    let rest : List ℕ = c.loop-left.rest.now in
-    let end : c.first_length-end-2.result - 0 ≡ first_length 44 rest = omega arith in
-    let none : 0 ≡ c.loop-left.left = omega arith in
-    ap (λ (n : ℕ). take n rest) end
-    ∙ sym (part_first 44 rest)
-    ∙ ap (λ (n : ℕ). field_at n (parted 44 rest)) none
-    ∙ c.loop-left.invariant.0
+    let found = nth_from_yields_List c.nth.result _ c.args.n c.nth.ensures.ran
+    (YieldsList-from_slice_split _ (λ (x : ℕ). x == 44) c.args.line.now c.split.ensures.rest c.split.ensures.done c.split.ensures.closure (λ x b q k. search (rules, tests))) in
+    part_or c.nth.result c.unwrap_or.result _ c.unwrap_or.ensures refl
+    ∙ ap (λ (o : Option (List ℕ)). unwrap_or o []) found
+    ∙ unwrap_or-slice_get (parted 44 c.args.line.now) c.args.n []

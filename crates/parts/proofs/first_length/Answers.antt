@@ -1,22 +1,20 @@
-use Rattle.std.proofs.Common.{◌≡◌, suc, ◌+◌, cond, eqb, get_or, drop, arith}
-use Rattle.std.proofs.lemmas.List.{at_drop_more, at_drop_all}
+use Rattle.std.proofs.Common.{◌≡◌, ℕ, ◌≤◌, ◌==◌, cond, length, Some, None, Option, unwrap_or, ap, ◌∙◌, rules, arith}
+use borrow.Author.Tests.{tests}
+use lib.Dec.{ltb}
 use Rattle.std.proofs.lemmas.Bool.Decides.{nat_tests}
+use Rattle.std.proofs.lemmas.Iterator.{YieldsList-from_slice}
+use Rattle.std.proofs.lemmas.Iterator.Search.{position_from_yields_List}
+use Rattle.std.proofs.lemmas.List.Sums.{prefix_len-le-length}
 use Rattle.parts.specs.Parts.{first_length}
 use Rattle.parts.proofs.first_length.Goals as goal
 
-pub loop-i-preserved : goal.loop-i-preserved
-loop-i-preserved c =
-    let step : first_length c.args.mark (drop c.loop-i.i c.args.text.now) ≡ cond (eqb (get_or c.args.text.now c.loop-i.i 0) c.args.mark) 0 (suc (first_length c.args.mark (drop (c.loop-i.i + 1) c.args.text.now)))
-    = at_drop_more (first_length c.args.mark) c.args.text.now c.loop-i.i 0 c.loop-i-test.true in
-    grind (arith, nat_tests)
+-- where there is no mark, the text ends the first part
+whole : (end all : ℕ) → end ≤ all → unwrap_or (cond (ltb end all) (Some end) None) all ≡ end
+whole end all h = grind (arith, nat_tests)
 
-pub returns-then-c-mark : goal.returns-then-c-mark
-returns-then-c-mark c =
-    let step : first_length c.args.mark (drop c.loop-i.i c.args.text.now) ≡ cond (eqb (get_or c.args.text.now c.loop-i.i 0) c.args.mark) 0 (suc (first_length c.args.mark (drop (c.loop-i.i + 1) c.args.text.now)))
-    = at_drop_more (first_length c.args.mark) c.args.text.now c.loop-i.i 0 c.loop-i-test.true in
-    record { result = grind (arith, nat_tests); within = omega arith }
-
-pub returns : goal.returns
-returns c =
-    let done : first_length c.args.mark (drop c.loop-i.i c.args.text.now) ≡ 0 = at_drop_all (first_length c.args.mark) c.args.text.now c.loop-i.i (omega arith) in
-    record { result = omega arith; within = omega arith }
+pub returns-clause-result : goal.returns-clause-result
+returns-clause-result c =
+    let found = position_from_yields_List (λ (x : ℕ). x == c.args.mark) _ _ c.position.result c.position.ensures.ran (YieldsList-from_slice c.args.text.now cc) (λ x b q k. search (rules, tests)) in
+    c.unwrap_or.ensures
+    ∙ ap (λ (o : Option ℕ). unwrap_or o (length c.args.text.now)) found
+    ∙ whole (first_length c.args.mark c.args.text.now) (length c.args.text.now) (prefix_len-le-length _ c.args.text.now)

@@ -1,7 +1,5 @@
-use Rattle.std.proofs.Common.{refl, ap, arith}
+use Rattle.std.proofs.Common.{refl, arith}
 use Rattle.hex_pairs.proofs.Texts.{text_more}
-use Rattle.hex_pairs.specs.Hex.{hex_text}
-use Rattle.std.proofs.lemmas.List.{take_all}
 use Rattle.std.proofs.Output.{has_written_of_eq, has_written_append}
 use Rattle.hex_pairs.proofs.HexDisplay.fmt.Goals as goal
 
@@ -12,9 +10,3 @@ loop-byte-preserved g c = λ plain.
     has_written_of_eq g.W.Write.write_str_gives _ _ _ _
     (text_more c.args.self.now.0.now c.loop-byte.byte-index (omega arith))
     (has_written_append g.W.Write.write_str_gives _ _ _ _ _ before put)
-
-pub returns-clause-writes : goal.returns-clause-writes
-returns-clause-writes g c = λ plain ok.
-    has_written_of_eq g.W.Write.write_str_gives _ _ _ _
-    (ap hex_text (take_all c.loop-byte.byte-index c.args.self.now.0.now (omega arith)))
-    (c.loop-byte.invariant plain)
