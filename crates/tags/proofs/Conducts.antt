@@ -1,7 +1,9 @@
 -- How a pump tag conducts itself.
-use Rattle.std.proofs.Common.{◌≡◌, ℕ, ◌%◌, Bool, true, false, cond, not, ◌&&◌, eqb, ltb, List, [], ◌∷◌, replicate, Some, None, Option, sym, refl, ap, ◌∙◌, ap₂, ⊎_elim, arith, lit<}
+use Rattle.std.proofs.Common.{◌≡◌, ℕ, ◌%◌, Bool, true, false, cond, not, ◌&&◌, eqb, ltb, List, [], ◌∷◌, replicate, Some, None, Option, sym, refl, ap, ◌∙◌, ⊎_elim, arith, lit<}
 use Rattle.std.specs.Str.{bytes_eq}
-use Rattle.std.proofs.lemmas.Bool.{cond-false, cases_Bool, false≢true, eqb-true, eq-eqb}
+use Rattle.std.proofs.Math.Bool.{and-true}
+use Rattle.std.proofs.lemmas.Bool.{cond-false, cases_Bool, false≢true, eqb-true, eq-eqb, not-true}
+use Rattle.std.proofs.lemmas.Slice.Eq.{bytes_eq-Decides}
 use Rattle.typeb.specs.declared.frames.Op.{Op}
 use Rattle.typeb.specs.declared.frames.Op.TheVariants.{Read, Write, Lock, CheckPassword, Deselect, Count}
 use Rattle.typeb.specs.declared.frames.Slots.{Slots}
@@ -87,14 +89,10 @@ not_listening family true slots Halted h = absurd (false≢true h)
 not_listening family false slots Halted h = refl
 not_listening family wake_up slots Active h = refl
 
-not_turned : (b : Bool) → not b ≡ true → b ≡ false
-not_turned true h = absurd (false≢true h)
-not_turned false h = refl
-
 not_waiting : (answer : Says) (slot : ℕ) (link : Link) (s : State) → passes_by (SlotMarker slot) s ≡ true → hears_marker answer slot link s ≡ links.unmoved link
 not_waiting answer slot link Off h = refl
 not_waiting answer slot link Idle h = refl
-not_waiting answer slot link (Requested own) h = cond-false (eqb own slot) _ _ (not_turned (eqb own slot) h)
+not_waiting answer slot link (Requested own) h = cond-false (eqb own slot) _ _ (not-true (eqb own slot) h)
 not_waiting answer slot link Declared h = refl
 not_waiting answer slot link Halted h = refl
 not_waiting answer slot link Active h = refl
@@ -225,23 +223,16 @@ reads_back page bytes m sized below eight other said =
     ∙ read_open page (with_page page bytes m) other (opened page bytes m said)
     ∙ ap (λ (p : List ℕ). Some (Page p)) (replaced_here m sized page below bytes eight)
 
-same_itself : (xs : List ℕ) → bytes_eq xs xs ≡ true
-same_itself [] = refl
-same_itself (x ∷ xs) = ap₂ (λ (a b : Bool). a && b) (eq-eqb x x refl) (same_itself xs)
-
 accepted_by : (test : Bool) (m : PumpMeaning) → (cond test (passed m) (failed m)).accepted ≡ test
 accepted_by true m = refl
 accepted_by false m = refl
-
-and_true : (a b : Bool) → b ≡ true → (a && b) ≡ a
-and_true true b h = h
-and_true false b h = refl
 
 password_counts : PasswordCounts
 password_counts bytes m sized eight said =
     ap (λ (n : PumpMeaning). (pump_checks bytes n).accepted) (replaced 3 bytes m said)
     ∙ accepted_by (passes bytes (with_page 3 bytes m)) (with_page 3 bytes m)
-    ∙ and_true (not (bytes_eq bytes (replicate 8 0xFF))) _ (ap (bytes_eq bytes) (replaced_here m sized 3 (lit< tt) bytes eight) ∙ same_itself bytes)
+    ∙ ap (λ (b : Bool). not (bytes_eq bytes (replicate 8 0xFF)) && b) (ap (bytes_eq bytes) (replaced_here m sized 3 (lit< tt) bytes eight) ∙ (bytes_eq-Decides bytes bytes).1 refl)
+    ∙ and-true (not (bytes_eq bytes (replicate 8 0xFF)))
 
 conversation : Conversation
 unfolding fold_bit fold_bits fold_byte check_bytes sound heard

@@ -1,16 +1,8 @@
 -- A memory in two parts: its pages lie in one part or the other.
-use Rattle.std.proofs.Common.{◌≡◌, ℕ, ◌+◌, ◌-◌, ◌*◌, ◌≤◌, List, ◌++◌, length, take, drop, refl, ap, ◌∙◌, append_assoc, arith}
-use borrow.Rule.Slice.PartMut.{put_mid}
+use Rattle.std.proofs.Common.{◌≡◌, ℕ, ◌+◌, ◌*◌, ◌≤◌, List, ◌++◌, length, take, drop, refl, ap, ◌∙◌, append_assoc, arith}
 use lib.Seq.{take-append-add, drop-append-add}
-use Rattle.std.proofs.lemmas.List.{take-append-le, drop-append-le, drop-drop, length-append, length-take, length-drop}
+use Rattle.std.proofs.lemmas.List.{take-append-le, drop-append-le, length-append, length-take, length-drop}
 use Rattle.tags.specs.Pages.{page_at, put_page}
-
--- what a copy to `memory[8 * n..8 * n + 8]` leaves
-pub put_copied : (n : ℕ) (memory copy page : List ℕ) → copy ≡ page → put_mid (8 * n) (8 * n + 8 - 8 * n) memory copy ≡ put_page n page memory
-put_copied n memory copy page same =
-    ap (λ (l : List ℕ). take (8 * n) memory ++ (l ++ drop (8 * n + 8 - 8 * n) (drop (8 * n) memory))) same
-    ∙ ap (λ (l : List ℕ). take (8 * n) memory ++ (page ++ l))
-    (drop-drop (8 * n + 8 - 8 * n) (8 * n) memory ∙ ap (λ (k : ℕ). drop k memory) (omega arith))
 
 module _ (n : ℕ) (f h : List ℕ) where
   -- a page of the front part

@@ -1,8 +1,11 @@
 -- The 32 pages of a pump tag by its meaning: three are shown, the others hidden.
-use Rattle.std.proofs.Common.{◌≡◌, ℕ, ◌-◌, ◌<◌, ◌≤◌, true, false, cond, ltb, List, ◌++◌, length, take, drop, sym, ap, ◌∙◌, ⊎_elim, arith}
+use Rattle.std.proofs.Common.{◌≡◌, ℕ, ◌-◌, ◌<◌, ◌≤◌, Bool, true, false, cond, eqb, ltb, leb, List, ◌++◌, length, take, drop, Ok, sym, refl, ap, ◌∙◌, ⊎_elim, arith, lit<}
 use Rattle.std.proofs.lemmas.List.{length-take, take_at, drop_at, take-append-drop}
-use Rattle.std.proofs.lemmas.Bool.{lt-ltb, le-ltb, cases_lt}
-use Rattle.tags.specs.Pages.{page_at, put_page}
+use Rattle.std.proofs.lemmas.Bool.{eq-eqb, lt-ltb, le-ltb, cases_lt}
+use Rattle.refusals.specs.Numbers.{asked}
+use Rattle.tags.specs.Making.{new_pump, pump_made}
+use Rattle.tags.specs.Pages.{page_at, put_page, unlocked, counter_in}
+use Rattle.tags.specs.Pump.{PumpMeaning, page_of}
 use Rattle.tags.proofs.Memory.{page_front, page_back, put_front, put_back, length_put}
 
 module _ (n : ℕ) (memory : List ℕ) (whole : length memory ≡ 256) (below : n < 32) where
@@ -53,3 +56,11 @@ module _ (n : ℕ) (memory : List ℕ) (whole : length memory ≡ 256) (below : 
         simp t (ap (drop 24) (put_back n (take 24 memory) (drop 24 memory) (n - 3) (omega arith) page)
         ∙ drop_at (take 24 memory) (put_page (n - 3) page (drop 24 memory)) 24 fit))
         (cases_lt n 3)
+
+-- what is made of an image, by what was asked of the tag made of its bytes
+pub made_of : (image memory : List ℕ) (draw : ℕ) (m : PumpMeaning) {free : Bool} {count : ℕ} → length image ≡ 256 → memory ≡ image → m ≡ new_pump memory draw
+    → free ≡ unlocked 0 (page_of 0 m) → count ≡ counter_in (page_of 2 m)
+    → pump_made image draw ≡ asked free 2 (asked (leb count 0x8000) 3 (Ok m))
+made_of image memory draw m whole same is unlocks counts =
+    let size : eqb (length image) 256 ≡ true = eq-eqb _ _ whole in
+    simp (unlocks, counts, is, same, size, page_shown 0 image whole (lit< tt), page_shown 2 image whole (lit< tt)) refl

@@ -1,8 +1,8 @@
 -- What a tag of either kind can say to a frame, whatever its state.
-use Rattle.std.proofs.Common.{◌≡◌, ℕ, ◌+◌, ◌-◌, ◌*◌, ◌%◌, ◌<◌, ◌≤◌, Bool, true, false, cond, ◌&&◌, eqb, ltb, leb, List, length, get_or, IfSome, Option, refl, arith}
+use Rattle.std.proofs.Common.{◌≡◌, ℕ, ◌+◌, ◌*◌, ◌%◌, ◌<◌, ◌≤◌, Bool, true, false, cond, ◌&&◌, eqb, ltb, leb, List, length, get_or, IfSome, Option, refl, arith}
 use Rattle.std.specs.Str.{bytes_eq}
 use Rattle.std.proofs.lemmas.List.{length-take, length-drop}
-use Rattle.std.proofs.lemmas.Bool.{cond_both, ltb-true, ltb-false}
+use Rattle.std.proofs.lemmas.Bool.{cond_both, ltb-true}
 use Rattle.typeb.specs.declared.frames.Op.{Op}
 use Rattle.typeb.specs.declared.frames.Op.TheVariants.{Read, Write, Lock, CheckPassword, Deselect, Count}
 use Rattle.typeb.specs.Hears.{Heard, Request, SlotMarker, Attrib, Halt, Command, slot_count}
@@ -17,6 +17,7 @@ use Rattle.tags.specs.Common.{Shown, link_of, by_link, reacts_by}
 use Rattle.tags.specs.Reacts.{Reaction}
 use Rattle.tags.specs.Pump.{PumpMeaning, PumpSized, pump_obeys, page_of, passes}
 use Rattle.tags.specs.Rules.{reading_of, writing_of, ever_read, read_now, by_write}
+use Rattle.tags.proofs.Replaced.{page_long}
 use Rattle.tags.specs.Gauge.{GaugeMeaning, GaugeSized, gauge_obeys}
 
 -- P holds of what is said, where anything is
@@ -51,15 +52,9 @@ either : {A : Type 0} (Q : A → Type 0) (t : Bool) {x y : A} → Q x → Q y �
 either Q true p q = p
 either Q false p q = q
 
--- a page within a memory has eight bytes, and so has each of a pump tag's 32
+-- a page within a memory has eight bytes
 length_page : (n : ℕ) (memory : List ℕ) → 8 * n + 8 ≤ length memory → length (page_at n memory) ≡ 8
 length_page n memory fits = simp (length-take, length-drop) (omega arith)
-
-length_pump_page : (m : PumpMeaning) → PumpSized m → (page : ℕ) → page < 32 → length (page_of page m) ≡ 8
-length_pump_page m sized page below =
-    cond_both (ltb page 3) (page_at page m.shown.pages) (page_at (page - 3) m.hidden) (λ (l : List ℕ). length l ≡ 8)
-    (λ t. let low = ltb-true page 3 t in length_page page m.shown.pages (omega arith))
-    (λ t. let high = ltb-false page 3 t in length_page (page - 3) m.hidden (omega arith))
 
 module _ (P : Says → Type 0) where
   -- the link, for a tag with this serial number and application data
@@ -110,7 +105,7 @@ module _ (P : Says → Type 0) where
     pump_obeys_lem : (op : Op) (page : ℕ) (bytes : List ℕ) → page < 32 → ToCommand P op → OnlyReacts (pump_obeys op page bytes m)
     pump_obeys_lem Read page bytes below all =
         either OnlyReacts (ever_read (reading_of page))
-        (either OnlyReacts (read_now (reading_of page) m.opened) (all.0 (page_of page m) (length_pump_page m sized page below)) (all.1 0x41 refl))
+        (either OnlyReacts (read_now (reading_of page) m.opened) (all.0 (page_of page m) (page_long m sized page below)) (all.1 0x41 refl))
         (all.1 0x21 refl)
     pump_obeys_lem Write page bytes below all =
         either OnlyReacts m.opened

@@ -1,4 +1,4 @@
--- What a kind of tag is: what a tag means, how it acts, and the three duties that every kind keeps.
+-- What a kind of tag is: what a tag means, how it acts, and the four duties that every kind keeps.
 use Rattle.std.specs.Prelude.{◌≡◌, ℕ, ◌≤◌, Bool, true, false, List, [], ◌++◌, length, drop}
 
 -- A tag's meaning: what it shows to everyone, what it hides while it is closed, and whether it is open.

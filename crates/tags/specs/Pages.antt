@@ -1,11 +1,16 @@
 -- Pages of eight bytes, read and written whole.
-use Rattle.std.specs.Prelude.{ℕ, ◌+◌, ◌*◌, ◌/◌, ◌%◌, ◌^◌, Bool, List, [], ◌∷◌, ◌++◌, take, drop, ◌==◌, bit_or, slice_index}
+use Rattle.std.specs.Prelude.{◌≡◌, ℕ, ◌+◌, ◌*◌, ◌/◌, ◌%◌, ◌^◌, Bool, cond, List, [], ◌∷◌, ◌++◌, length, take, drop, Some, None, Option, ◌==◌, nat_le, bit_or, slice_index}
 
 abbrev pub page_at : ℕ → List ℕ → List ℕ
 page_at n memory = take 8 (drop (8 * n) memory)
 
 abbrev pub put_page : ℕ → List ℕ → List ℕ → List ℕ
 put_page n page memory = take (8 * n) memory ++ (page ++ drop (8 * n + 8) memory)
+
+-- A page is set where the memory has it; else the memory stays as it was, and nothing is answered.
+pub record PageSet (n : ℕ) (page before after : List ℕ) (answer : Option Unit) : Type 0 where
+  pub memory : after ≡ cond (nat_le (8 * n + 8) (length before)) (put_page n page before) before
+  pub done : answer ≡ cond (nat_le (8 * n + 8) (length before)) (Some tt) None
 
 -- Page 0 begins with the serial number, page 1 with the application data.
 abbrev pub serial_in : List ℕ → List ℕ

@@ -1,9 +1,10 @@
 -- What a tag says, and the bytes in which it says it.
-use Rattle.std.specs.Prelude.{ℕ, ◌%◌, List, [], ◌∷◌, ◌++◌, Some, None, Option}
+use Rattle.std.specs.Prelude.{ℕ, ◌%◌, List, [], ◌∷◌, ◌++◌, Some, None, Option, Bool, cond, Ok, Err, Result}
 use Rattle.typeb.specs.CheckBytes.{sealed}
 use Rattle.typeb.specs.Hears.{Heard, Request, SlotMarker, Attrib, Halt, Command, head_of}
 use Rattle.tags.specs.declared.said.Nack.{Nack}
 use Rattle.tags.specs.declared.said.Nack.TheVariants.{Locked, Invalid, NotOpen}
+use Rattle.tags.specs.declared.said.Echo.{Echo}
 use Rattle.tags.specs.declared.said.Said.{Said}
 use Rattle.tags.specs.declared.said.Said.TheVariants as said
 
@@ -46,10 +47,14 @@ page_named (Attrib serial params inf) = 0
 page_named (Halt serial) = 0
 page_named (Command op cid address bytes) = address % 32
 
--- A byte that may be there, as a list.
-abbrev pub repeated : Option ℕ → List ℕ
-repeated (Some head) = head ∷ []
+-- The same of what the code takes from a data command, and from no other frame.
+abbrev pub repeated : Option Echo → List ℕ
+repeated (Some e) = e.head ∷ []
 repeated None = []
+
+abbrev pub page_repeated : Option Echo → ℕ
+page_repeated (Some e) = e.page
+page_repeated None = 0
 
 -- What is said, behind what is repeated, without check bytes.
 abbrev pub said_body : List ℕ → ℕ → Says → List ℕ
@@ -75,3 +80,16 @@ says_of (said.Refused why) = Refused (nack_code why)
 abbrev pub saying_of : Option Said → Option Says
 saying_of (Some s) = Some (says_of s)
 saying_of None = None
+
+-- A question that a command asks: yes, or why not.
+abbrev pub granted : Bool → Nack → Result Unit Nack
+granted passed why = cond passed (Ok tt) (Err why)
+
+-- What is said of a command that is done or refused, and of one that gives a page or is refused.
+abbrev pub done_said : Result Unit Nack → Said
+done_said (Ok done) = said.Acknowledged
+done_said (Err why) = said.Refused why
+
+abbrev pub page_said : Result (List ℕ) Nack → Said
+page_said (Ok page) = said.Page page
+page_said (Err why) = said.Refused why

@@ -10,7 +10,8 @@ use crate::said::{Said, put_reply};
 use typeb::frames::Frame;
 use typeb::received::Received;
 
-// What a tag does with what it heard: what it says, and whether it accepted a check.
+// What a tag does with what it heard: what it says, and whether it accepted a check. Neither follows from the other: an
+// acknowledged WRITE accepts none.
 #[derive(Clone, Copy)]
 pub struct Response {
     pub said: Option<Said>,

@@ -5,7 +5,8 @@ ghost use Rattle.tags.specs.Kinds.{Meaning, Behaviour, Duties, Told};
 
 use typeb::received::Received;
 
-// What hearing a frame answers: the length of the reply in the lent buffer, and whether a check was accepted.
+// What hearing a frame answers: the length of the reply in the lent buffer, and whether a check was accepted. Two answers
+// of every kind, not a value with a flag: a reply of any length may come with either.
 #[derive(Clone, Copy)]
 pub struct Hearing {
     pub len: usize,

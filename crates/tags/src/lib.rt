@@ -6,6 +6,7 @@ pub mod gauge;
 pub mod hearing;
 pub mod kind;
 pub mod link;
+pub mod obeying;
 pub mod pages;
 pub mod pump;
 pub mod rights;

@@ -1,11 +1,12 @@
 // The part of a tag that every kind has: its state, card number and draw number.
-ghost use Rattle.std.specs.Prelude.{◌≡◌, ◌<◌};
+ghost use Rattle.std.specs.Prelude.{◌≡◌, ◌<◌, ◌≤◌, length};
 ghost use Rattle.typeb.specs.Hears.{frame_of, slot_count};
 ghost use Rattle.tags.specs.Links.{new_link, gains_link, loses_link, drawn, link_hears, hears_request, requested, deselected};
+ghost use Rattle.tags.specs.Pages.{serial_in, application_in};
 ghost use Rattle.tags.specs.Says.{says_of, saying_of};
 
+use crate::pages::page_front;
 use crate::said::Said;
-use typeb::bytes::same_bytes;
 use typeb::frames::{Frame, Serial, Slots};
 
 #[derive(Clone, Copy, PartialEq, Eq, Debug)]
@@ -22,7 +23,7 @@ pub enum State {
 #[derive(Clone, Copy, PartialEq, Eq, Debug)]
 pub struct Link {
     pub state: State,
-    // the card number, CID, that ATTRIB gave
+    // the card number, CID, that ATTRIB gave; beside the state, since it outlasts active
     pub cid: u8,
     // the number from which the next slot is drawn
     pub draw: u16,
@@ -111,6 +112,15 @@ impl Link {
         }
     }
 
+    // Hears for a tag whose memory begins with serial number and application data.
+    pub(crate) fn hear_for(&mut self, told: Frame<'_>, memory: &[u8]) -> Option<Said>
+        requires { 16 ≤ length memory.now }
+        ensures after { self.new ≡ (link_hears (serial_in memory.now) (application_in memory.now) (frame_of told.entry) self.old).after }
+        ensures says { saying_of result ≡ (link_hears (serial_in memory.now) (application_in memory.now) (frame_of told.entry) self.old).says }
+    {
+        self.hear(told, page_front(memory, 0), page_front(memory, 1))
+    }
+
     // Hears a request, a slot marker, ATTRIB or HLTB, for a tag with this serial number and application data.
     pub fn hear(&mut self, told: Frame<'_>, own: Serial, application: [u8; 4]) -> Option<Said>
         ensures after { self.new ≡ (link_hears own application (frame_of told.entry) self.old).after }
@@ -133,13 +143,12 @@ impl Link {
                 self.state = State::Declared;
                 Some(answer)
             }
-            (State::Declared, Frame::Attrib { serial, params, .. }) if same_bytes(&serial, &own) =>
-                {
-                    self.cid = params[3] % 16;
-                    self.state = State::Active;
-                    Some(Said::Card(self.cid))
-                }
-            (State::Declared, Frame::Halt { serial }) if same_bytes(&serial, &own) => {
+            (State::Declared, Frame::Attrib { serial, params, .. }) if serial == own => {
+                self.cid = params[3] % 16;
+                self.state = State::Active;
+                Some(Said::Card(self.cid))
+            }
+            (State::Declared, Frame::Halt { serial }) if serial == own => {
                 self.state = State::Halted;
                 Some(Said::Acknowledged)
             }

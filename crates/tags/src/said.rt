@@ -3,7 +3,7 @@ ghost use Rattle.std.specs.Prelude.{◌≡◌, ℕ, ◌+◌, ◌≤◌, [], ◌�
 ghost use Rattle.typeb.specs.CheckBytes.{sealed};
 ghost use Rattle.typeb.specs.Hears.{frame_of};
 ghost use Rattle.tags.specs.Kinds.{Placed};
-ghost use Rattle.tags.specs.Says.{Answer, Page, protocol_info, nack_code, repeated, echo, page_named, said_body, reply_bytes, says_of, saying_of};
+ghost use Rattle.tags.specs.Says.{Answer, Page, protocol_info, nack_code, repeated, page_repeated, echo, page_named, said_body, reply_bytes, says_of, saying_of, done_said, page_said};
 
 use typeb::crc::seal_into;
 use typeb::frames::{Frame, Serial};
@@ -12,22 +12,18 @@ use typeb::frames::{Frame, Serial};
 #[derive(Clone, Copy, PartialEq, Eq, Debug)]
 pub enum Nack {
     // the page is locked
-    Locked,
+    Locked = 0x11,
     // the page cannot be used so, or the counter has reached its end
-    Invalid,
+    Invalid = 0x21,
     // the tag is not open, or the password was wrong
-    NotOpen,
+    NotOpen = 0x41,
 }
 
 impl Nack {
     pub fn code(self) -> u8
         ensures { result ≡ nack_code self }
     {
-        match self {
-            Nack::Locked => 0x11,
-            Nack::Invalid => 0x21,
-            Nack::NotOpen => 0x41,
-        }
+        self as u8
     }
 }
 
@@ -46,16 +42,39 @@ pub enum Said {
     Refused(Nack),
 }
 
-// What a reply repeats of a frame: a data command's first byte, and the page that it names.
+// A command done is acknowledged.
+impl From<Result<(), Nack>> for Said {
+    ghost from_gives = { λ outcome said. said ≡ done_said outcome };
+
+    fn from(outcome: Result<(), Nack>) -> Said {
+        match outcome {
+            Ok(()) => Said::Acknowledged,
+            Err(why) => Said::Refused(why),
+        }
+    }
+}
+
+impl From<Result<[u8; 8], Nack>> for Said {
+    ghost from_gives = { λ outcome said. said ≡ page_said outcome };
+
+    fn from(outcome: Result<[u8; 8], Nack>) -> Said {
+        match outcome {
+            Ok(page) => Said::Page(page),
+            Err(why) => Said::Refused(why),
+        }
+    }
+}
+
+// What a reply repeats of a data command: its first byte, and the page that it names.
 #[derive(Clone, Copy)]
 struct Echo {
-    head: Option<u8>,
+    head: u8,
     page: u8,
 }
 
-fn echo_of(told: Frame<'_>) -> Echo
-    ensures head { repeated result.head ≡ echo (frame_of told.entry) }
-    ensures page { result.page ≡ page_named (frame_of told.entry) }
+fn echo_of(told: Frame<'_>) -> Option<Echo>
+    ensures head { repeated result ≡ echo (frame_of told.entry) }
+    ensures page { page_repeated result ≡ page_named (frame_of told.entry) }
 {
     match told {
         Frame::Command {
@@ -63,29 +82,30 @@ fn echo_of(told: Frame<'_>) -> Echo
             cid,
             address,
             ..
-        } => Echo {
-            head: Some(op.head(cid)),
+        } => Some(Echo {
+            head: op.head(cid),
             page: address % 32,
-        },
+        }),
         Frame::Request { .. }
         | Frame::SlotMarker { .. }
         | Frame::Attrib { .. }
-        | Frame::Halt { .. } => Echo {
-            head: None,
-            page: 0,
-        },
+        | Frame::Halt { .. } => None,
     }
 }
 
-// A body and its check bytes, at the front of the buffer. Answers the length.
+// A body and its check bytes, at the front of the buffer. Answers the length. That the body fits is proved at each call: a
+// type for at most 14 bytes would be a buffer with a length beside it.
+#[tactic(auto, using(crate::proofs::Lists::placed_by))]
 fn put_sealed(body: &[u8], reply: &mut [u8; 16]) -> usize
     requires { length body.now ≤ 14 }
     ensures { Placed (sealed body.now) reply.old reply.new result }
 {
-    seal_into(body, reply).unwrap_or(0)
+    seal_into(body, reply).unwrap()
 }
 
-// ATQB for a serial number and application data.
+// ATQB for a serial number and application data. Here and below the arrays are written out, as they are sent: copies into
+// zeros would be no shorter, and hide the order.
+#[tactic(auto, using(crate::proofs::Lists::listed))]
 fn put_answer(s: Serial, a: [u8; 4], reply: &mut [u8; 16]) -> usize
     ensures { Placed (sealed (said_body [] 0 (Answer s a protocol_info))) reply.old reply.new result }
 {
@@ -98,36 +118,32 @@ fn put_answer(s: Serial, a: [u8; 4], reply: &mut [u8; 16]) -> usize
 }
 
 // A page behind what is repeated.
-fn put_page(echo: Echo, b: [u8; 8], reply: &mut [u8; 16]) -> usize
-    ensures { Placed (sealed (said_body (repeated echo.head) echo.page (Page b))) reply.old reply.new result }
+#[tactic(auto, using(crate::proofs::Lists::listed))]
+fn put_page(echo: Option<Echo>, b: [u8; 8], reply: &mut [u8; 16]) -> usize
+    ensures { Placed (sealed (said_body (repeated echo) (page_repeated echo) (Page b))) reply.old reply.new result }
 {
-    match echo.head {
-        Some(head) => put_sealed(
-            &[
-                head, echo.page, b[0], b[1], b[2], b[3], b[4], b[5], b[6], b[7],
-            ],
+    match echo {
+        Some(Echo { head, page }) => put_sealed(
+            &[head, page, b[0], b[1], b[2], b[3], b[4], b[5], b[6], b[7]],
             reply,
         ),
-        None => put_sealed(
-            &[echo.page, b[0], b[1], b[2], b[3], b[4], b[5], b[6], b[7]],
-            reply,
-        ),
+        None => put_sealed(&[0, b[0], b[1], b[2], b[3], b[4], b[5], b[6], b[7]], reply),
     }
 }
 
 // One byte behind what is repeated.
-fn put_status(echo: Echo, status: u8, reply: &mut [u8; 16]) -> usize
-    ensures { Placed (sealed (repeated echo.head ++ (status ∷ []))) reply.old reply.new result }
+fn put_status(echo: Option<Echo>, status: u8, reply: &mut [u8; 16]) -> usize
+    ensures { Placed (sealed (repeated echo ++ (status ∷ []))) reply.old reply.new result }
 {
-    match echo.head {
-        Some(head) => put_sealed(&[head, status], reply),
+    match echo {
+        Some(Echo { head, .. }) => put_sealed(&[head, status], reply),
         None => put_sealed(&[status], reply),
     }
 }
 
 // What is said, behind what is repeated of the frame.
-fn put_said(echo: Echo, said: Said, reply: &mut [u8; 16]) -> usize
-    ensures { Placed (sealed (said_body (repeated echo.head) echo.page (says_of said))) reply.old reply.new result }
+fn put_said(echo: Option<Echo>, said: Said, reply: &mut [u8; 16]) -> usize
+    ensures { Placed (sealed (said_body (repeated echo) (page_repeated echo) (says_of said))) reply.old reply.new result }
 {
     match said {
         Said::Answer {

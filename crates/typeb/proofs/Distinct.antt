@@ -43,7 +43,8 @@ slots_back_lem Four = refl
 slots_back_lem Eight = refl
 slots_back_lem Sixteen = refl
 
-op_back : (op : Op) → op_of (op_code op) ≡ Some op
+-- a command is read back from its code
+pub op_back : (op : Op) → op_of (op_code op) ≡ Some op
 op_back Read = refl
 op_back Write = refl
 op_back Lock = refl

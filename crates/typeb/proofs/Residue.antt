@@ -2,15 +2,17 @@
 -- Two bytes enter the register as sixteen zero bits would after an exclusive or with the two bytes.
 -- Zero bits can be taken back, so sixteen of them lead to 0xF0B8 from 0xFFFF alone.
 -- So the register ends at 0xF0B8 exactly when the last two bytes are the complement of the register before them.
-use Rattle.std.proofs.Common.{◌≡◌, ℕ, zero, suc, ◌+◌, ◌-◌, ◌*◌, ◌/◌, ◌%◌, ◌^◌, ◌<◌, ◌≤◌, Bool, true, false, cond, eqb, ltb, List, [], ◌∷◌, ◌++◌, length, get_or, fold, sym, refl, ap, ◌∙◌, ap₂, div-one, add-one, one-add, arith, lit<, shr-shr}
+use Rattle.std.proofs.Common.{◌≡◌, ℕ, zero, suc, ◌+◌, ◌-◌, ◌*◌, ◌/◌, ◌%◌, ◌^◌, ◌<◌, ◌≤◌, Bool, true, false, cond, eqb, ltb, List, [], ◌∷◌, ◌++◌, length, fold, sym, refl, ap, ◌∙◌, ap₂, div-one, add-one, one-add, arith, lit<, shr-shr}
 use native.Mathlib.Nat.{div-eq_of_lt}
 use lib.Bits.{bit_xor, xor_shr, xor_mod, xor_assoc, xor_comm, xor_self, xor_zero_r, xor_lt, xor_add_and, and_mask}
 use lib.Pow.{field, mod-mod-pow}
 use Rattle.std.specs.Str.{bytes_eq}
 use Rattle.std.proofs.lemmas.Bool.{cond_both, cond-true, cond-false, eq-eqb, eqb-true, eqb-false, lt-ltb, le-ltb, le-leb}
-use Rattle.std.proofs.lemmas.List.{length-drop, length-append, take-append-drop, take_at, drop_at, get_or-drop}
+use Rattle.std.proofs.lemmas.List.{length-append, take-append-drop, take_at, drop_at}
 use Rattle.std.proofs.lemmas.Slice.Eq.{bytes_eq-Decides}
 use Rattle.std.proofs.lemmas.Bool.Decides.{same_from_decides}
+use Rattle.std.proofs.lemmas.List.Sums.{fold-append}
+use Rattle.typeb.proofs.Parts.{drop_two}
 use Rattle.typeb.specs.CheckBytes.{fold_bit, fold_bits, fold_byte, register, check_bytes, sealed, body_of, tail_of, sound, Bytes}
 
 -- Exclusive or with the same number twice changes nothing, and the order does not matter.
@@ -163,25 +165,13 @@ from_residue r low high l hl hh e =
     let small : bit_xor r c < 65536 = xor_lt 16 r c l (omega arith) in
     sym (xor_cancel r c) ∙ ap (bit_xor r) (to_ones (bit_xor r c) small (sym (two_bytes_xor r low high hl hh) ∙ e)) ∙ complement r l
 
--- The register runs over one list and then over the next.
-folded_append : (r : ℕ) (xs ys : List ℕ) → fold fold_byte r (xs ++ ys) ≡ fold fold_byte (fold fold_byte r xs) ys
-folded_append r [] ys = refl
-folded_append r (x ∷ xs) ys = folded_append (fold_byte r x) xs ys
-
--- A list of two numbers, written out.
-two_of : (xs : List ℕ) → length xs ≡ 2 → xs ≡ get_or xs 0 0 ∷ get_or xs 1 0 ∷ []
-two_of [] e = absurd (omega arith)
-two_of (x ∷ []) e = absurd (omega arith)
-two_of (x ∷ y ∷ []) e = refl
-two_of (x ∷ y ∷ z ∷ zs) e = absurd (omega arith)
-
 -- Two bytes behind a body are its check bytes exactly when the register ends at 0xF0B8.
 same_check : (body : List ℕ) (low high : ℕ) → low < 256 → high < 256 → bytes_eq (low ∷ high ∷ []) (check_bytes body) ≡ eqb (register (body ++ low ∷ high ∷ [])) 0xF0B8
 unfolding check_bytes
 same_check body low high hl hh =
     let r : ℕ = register body in
     let l : r < 65536 = folded_below 0xFFFF body (lit< tt) in
-    let end : register (body ++ low ∷ high ∷ []) ≡ fold_byte (fold_byte r low) high = folded_append 0xFFFF body (low ∷ high ∷ []) in
+    let end : register (body ++ low ∷ high ∷ []) ≡ fold_byte (fold_byte r low) high = fold-append fold_byte 0xFFFF body (low ∷ high ∷ []) in
     same_from_decides _ _ (bytes_eq-Decides (low ∷ high ∷ []) (check_bytes body)) (
       (λ e.
           let c = from_residue r low high l hl hh (sym end ∙ eqb-true _ _ e) in
@@ -202,14 +192,11 @@ sound_by_tail frame long = rw (le-leb 3 (length frame) long)
 -- A frame of three bytes or more is sound exactly when the register ends at 0xF0B8.
 pub residue : (frame : List ℕ) → Bytes frame → 3 ≤ length frame → sound frame ≡ eqb (register frame) 0xF0B8
 residue frame bytes long =
-    let n : ℕ = length frame - 2 in
-    let last = two_of (tail_of frame) (length-drop n frame ∙ omega arith) in
-    let low : get_or (tail_of frame) 0 0 < 256 = rw (get_or-drop n frame 0 0) (bytes (n + 0) (omega arith)) in
-    let high : get_or (tail_of frame) 1 0 < 256 = rw (get_or-drop n frame 1 0) (bytes (n + 1) (omega arith)) in
+    let last = drop_two frame (omega arith) in
     sound_by_tail frame long
     ∙ ap (λ t. bytes_eq t (check_bytes (body_of frame))) last
-    ∙ same_check (body_of frame) (get_or (tail_of frame) 0 0) (get_or (tail_of frame) 1 0) low high
-    ∙ ap (λ f. eqb (register f) 0xF0B8) (ap (λ t. body_of frame ++ t) (sym last) ∙ take-append-drop n frame)
+    ∙ same_check (body_of frame) _ _ (bytes (length frame - 2) (omega arith)) (bytes (length frame - 1) (omega arith))
+    ∙ ap (λ f. eqb (register f) 0xF0B8) (ap (λ t. body_of frame ++ t) (sym last) ∙ take-append-drop (length frame - 2) frame)
 
 -- A body that is not empty, with its check bytes behind it, is a sound frame.
 pub sealed_sound : (body : List ℕ) → 1 ≤ length body → sound (sealed body) ≡ true

@@ -4,9 +4,9 @@ use Rattle.std.proofs.lemmas.List.{take_all, take_at, take_rest}
 use Rattle.std.proofs.lemmas.Bool.{cond-true, eq-eqb, lt-ltb}
 use Rattle.typeb.specs.CheckBytes.{check_bytes, sealed, body_of, sound}
 use Rattle.typeb.specs.declared.frames.Op.{Op}
-use Rattle.typeb.specs.declared.frames.Op.TheVariants.{Read, Write, Lock, CheckPassword, Deselect, Count}
 use Rattle.typeb.specs.Hears.{Heard, SlotMarker, Attrib, Command, heard, in_body, head_of, op_code, op_of}
 use Rattle.typeb.proofs.Bodies.{attrib_heard, command_heard}
+use Rattle.typeb.proofs.Distinct.{op_back}
 use Rattle.typeb.proofs.Buffers.{length_sealed}
 use Rattle.typeb.proofs.Residue.{sealed_sound}
 
@@ -42,14 +42,6 @@ attrib_in_body a b c d p q r s inf short =
     sym (attrib_heard body (omega arith) fits refl) ∙ ap (λ l. Some (Attrib (a ∷ b ∷ c ∷ d ∷ []) (p ∷ q ∷ r ∷ s ∷ []) l)) rest
 
 -- a data command by its first byte
-known_code : (op : Op) → op_of (op_code op) ≡ Some op
-known_code Read = refl
-known_code Write = refl
-known_code Lock = refl
-known_code CheckPassword = refl
-known_code Deselect = refl
-known_code Count = refl
-
 pub command_in_body : (op : Op) (cid address : ℕ) (bytes : List ℕ) → cid ≤ 15 → length bytes ≡ 8
     → in_body (head_of op cid ∷ address ∷ bytes) ≡ Some (Command op cid address bytes)
 command_in_body op cid address bytes low eight =
@@ -58,5 +50,5 @@ command_in_body op cid address bytes low eight =
     let high : head_of op cid / 16 ≡ op_code op = omega arith in
     let own : head_of op cid % 16 ≡ cid = omega arith in
     let same : bytes ≡ take 8 (take (length body - 2) bytes) = sym (ap (take 8) rest ∙ take_all 8 bytes (omega arith)) in
-    sym (command_heard body bytes op (omega arith) (ap length rest ∙ eight) same (sym (ap op_of high ∙ known_code op)))
+    sym (command_heard body bytes op (omega arith) (ap length rest ∙ eight) same (sym (ap op_of high ∙ op_back op)))
     ∙ ap (λ (k : ℕ). Some (Command op k address bytes)) own

@@ -1,5 +1,7 @@
 -- What a tag hears in a frame: the frame is taken apart by its first byte and its length.
-use Rattle.std.specs.Prelude.{ℕ, ◌+◌, ◌*◌, ◌/◌, ◌%◌, Bool, cond, ◌&&◌, List, length, take, drop, Some, None, Option, ◌==◌, nat_le, nat_lt, slice_index}
+use Rattle.std.specs.Prelude.{◌≡◌, IfErr, Result, ℕ, ◌+◌, ◌*◌, ◌/◌, ◌%◌, Bool, cond, ◌&&◌, List, length, take, drop, Some, None, Option, ◌==◌, nat_le, nat_lt, slice_index}
+use Rattle.std.specs.Result.{result_ok}
+use Rattle.typeb.specs.declared.frames.UnknownCode.{UnknownCode}
 use Rattle.typeb.specs.declared.frames.Slots.{Slots}
 use Rattle.typeb.specs.declared.frames.Slots.TheVariants.{One, Two, Four, Eight, Sixteen}
 use Rattle.typeb.specs.declared.frames.Op.{Op}
@@ -60,6 +62,11 @@ op_of nibble =
     (cond (nibble == 0x6) (Some CheckPassword)
     (cond (nibble == 0xA) (Some Deselect)
     (cond (nibble == 0xE) (Some Count) None)))))
+
+-- A number read as what it names: the value, or an error with the number itself.
+pub record Named {T : Type 0} (named : Option T) (code : ℕ) (got : Result T UnknownCode) : Type 0 where
+  pub value : result_ok got ≡ named
+  pub unknown : IfErr got (λ e. e.0 ≡ code)
 
 -- A request: bit 3 of PARAM set means WUPB; its bits 4 to 7 are ignored.
 abbrev pub request_of : ℕ → ℕ → Option Slots → Option Heard

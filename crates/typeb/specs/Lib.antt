@@ -1,3 +1,4 @@
 pub mod CheckBytes
 pub mod Hears
+pub mod Messages
 pub mod Receives

@@ -3,7 +3,6 @@ ghost use Rattle.std.specs.Prelude.{◌≡◌, ◌<◌, is_ok, if◌then◌else�
 ghost use Rattle.typeb.specs.CheckBytes.{register, check_bytes, sealed, sound};
 ghost use Rattle.typeb.specs.CheckBytes.{EndsAtResidue, SealedIsSound, SealedInto};
 
-use crate::bytes::same_bytes;
 use crate::table::fold_byte;
 use std::alloc::AllocError;
 
@@ -21,37 +20,30 @@ fn run_register(bytes: &[u8]) -> u16
 }
 
 // The two check bytes of a body, in the order in which they are sent.
+#[tactic(auto, unfolding(crate::specs::CheckBytes::check_bytes))]
 pub fn check_bytes(body: &[u8]) -> [u8; 2]
     ensures { result ≡ check_bytes body.now }
 {
     let check = START - run_register(body);
-    [(check % 256) as u8, (check / 256) as u8]
-}
-
-// The last two bytes of a frame of three bytes or more are the check bytes of the rest.
-fn ends_in_check_bytes(frame: &[u8]) -> bool
-    ensures { result ≡ sound frame.now }
-{
-    match frame {
-        [body @ .., low, high] if !body.is_empty() => same_bytes(
-            &[*low, *high],
-            &check_bytes(body),
-        ),
-        _ => false,
-    }
+    check.to_le_bytes()
 }
 
 // A frame is sound when it has three bytes or more and its last two are the check bytes of the rest.
 // Of such a frame the register, run over all of its bytes, ends at 0xF0B8, and of no other: clause `residue`.
+#[tactic(auto, unfolding(crate::specs::CheckBytes::sound))]
 pub fn is_sound(frame: &[u8]) -> bool
     ensures result { result ≡ sound frame.now }
     ensures residue { EndsAtResidue frame.now result }
 {
-    ends_in_check_bytes(frame)
+    match frame {
+        [body @ .., low, high] if !body.is_empty() => [*low, *high] == check_bytes(body),
+        _ => false,
+    }
 }
 
 // Appends its check bytes to a body. Where there is no memory for them the body stays as it was.
 // A body of one byte or more becomes a sound frame: clause `sound_after`.
+#[tactic(auto, using(crate::proofs::Residue::sealed_sound))]
 pub fn seal(frame: &mut Vec<u8>) -> Result<(), AllocError>
     ensures result { frame.new.items ≡ (if is_ok result then sealed frame.old.items else frame.old.items) }
     ensures sound_after { SealedIsSound frame.old.items }
@@ -64,13 +56,9 @@ pub fn seal(frame: &mut Vec<u8>) -> Result<(), AllocError>
 pub fn seal_into(body: &[u8], buffer: &mut [u8]) -> Option<usize>
     ensures { SealedInto body.now buffer.old buffer.new result }
 {
-    let n = body.len();
-    if buffer.len() < 2 || n > buffer.len() - 2 {
-        return None;
-    }
-    let [low, high] = check_bytes(body);
-    buffer[0..n].copy_from_slice(body);
-    buffer[n] = low;
-    buffer[n + 1] = high;
-    Some(n + 2)
+    let (front, rest) = buffer.split_at_mut_checked(body.len())?;
+    let check = rest.first_chunk_mut::<2>()?;
+    front.copy_from_slice(body);
+    *check = check_bytes(body);
+    Some(body.len() + 2)
 }

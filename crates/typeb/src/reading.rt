@@ -1,38 +1,9 @@
 // The reading of a frame.
-ghost use Rattle.std.specs.Prelude.{◌≡◌, ◌/◌, ◌%◌};
-ghost use Rattle.typeb.specs.Hears.{slots_of, op_of, in_body, heard, reading_of};
+ghost use Rattle.std.specs.Prelude.{◌≡◌};
+ghost use Rattle.typeb.specs.Hears.{in_body, heard, reading_of};
 
 use crate::crc::is_sound;
 use crate::frames::{Frame, Op, Slots};
-
-// The number of slots for a code of three bits.
-fn slots_of(code: u8) -> Option<Slots>
-    ensures { result ≡ slots_of code }
-{
-    match code {
-        0 => Some(Slots::One),
-        1 => Some(Slots::Two),
-        2 => Some(Slots::Four),
-        3 => Some(Slots::Eight),
-        4 => Some(Slots::Sixteen),
-        _ => None,
-    }
-}
-
-// The data command for a high nibble.
-fn op_of(nibble: u8) -> Option<Op>
-    ensures { result ≡ op_of nibble }
-{
-    match nibble {
-        0x4 => Some(Op::Read),
-        0x3 => Some(Op::Write),
-        0x2 => Some(Op::Lock),
-        0x6 => Some(Op::CheckPassword),
-        0xA => Some(Op::Deselect),
-        0xE => Some(Op::Count),
-        _ => None,
-    }
-}
 
 // What stands in a frame's body.
 fn read_body(body: &[u8]) -> Option<Frame<'_>>
@@ -40,7 +11,7 @@ fn read_body(body: &[u8]) -> Option<Frame<'_>>
 {
     match body {
         [0x05, family, param] => {
-            let slots = slots_of(*param % 8)?;
+            let slots = Slots::try_from(*param % 8).ok()?;
             let wake_up = *param / 8 % 2 == 1;
             Some(Frame::Request {
                 family: *family,
@@ -59,9 +30,9 @@ fn read_body(body: &[u8]) -> Option<Frame<'_>>
         [0x50, s0, s1, s2, s3] => Some(Frame::Halt {
             serial: [*s0, *s1, *s2, *s3],
         }),
-        [head, address, rest @ ..] if rest.len() == 8 => {
-            let bytes = rest.first_chunk::<8>()?;
-            let op = op_of(*head / 16)?;
+        [head, address, rest @ ..] => {
+            let bytes = rest.as_array::<8>()?;
+            let op = Op::try_from(*head / 16).ok()?;
             Some(Frame::Command {
                 op,
                 cid: *head % 16,
@@ -74,6 +45,7 @@ fn read_body(body: &[u8]) -> Option<Frame<'_>>
 }
 
 // What a tag hears in a frame; none where the frame is not heard.
+#[tactic(auto, unfolding(crate::specs::Hears::heard, crate::specs::CheckBytes::sound))]
 pub fn read_frame(frame: &[u8]) -> Option<Frame<'_>>
     ensures { reading_of result ≡ heard frame.now }
 {

@@ -39,6 +39,6 @@ fn row(byte: u8) -> u16
 pub(crate) fn fold_byte(reg: u16, byte: u8) -> u16
     ensures { result ≡ fold_byte reg byte }
 {
-    let low = (reg % 256) as u8;
-    row(byte ^ low) ^ (reg / 256)
+    let [low, high] = reg.to_le_bytes();
+    row(byte ^ low) ^ u16::from(high)
 }

@@ -1,0 +1,16 @@
+use Rattle.std.proofs.Common.{◌≡◌, true, false, leb, sym, refl, ◌∙◌, arith, rules}
+use Rattle.std.proofs.lemmas.Bool.Decides.{nat_tests}
+use Rattle.tags.proofs.Shown.{made_of}
+use Rattle.tags.proofs.pump.PumpTag.from_image.Goals as goal
+
+pub returns-then-counter-gt-LAST_COUNT : goal.returns-then-counter-gt-LAST_COUNT
+returns-then-counter-gt-LAST_COUNT c =
+    let made = made_of c.args.image.now _ c.args.draw _ (search rules) (search rules) c.made-tag.ensures c.is_unlocked.ensures c.counter.ensures in
+    let much : leb c.counter.result 0x8000 ≡ false = grind (arith, nat_tests) in
+    sym (made ∙ simp (c.if-not-is_unlocked.false, much) refl)
+
+pub returns : goal.returns
+returns c =
+    let made = made_of c.args.image.now _ c.args.draw _ (search rules) (search rules) c.made-tag.ensures c.is_unlocked.ensures c.counter.ensures in
+    let room : leb c.counter.result 0x8000 ≡ true = grind (arith, nat_tests) in
+    sym (made ∙ simp (c.if-not-is_unlocked.false, room) refl)
