@@ -1,26 +1,35 @@
--- The body of ATTRIB, in an array and cut to its length.
-use Rattle.std.proofs.Common.{◌≡◌, ℕ, ◌+◌, ◌-◌, ◌≤◌, List, [], ◌∷◌, ◌++◌, length, get_or, take, drop, replicate, refl, ap, ◌∙◌, arith}
-use native.Mathlib.Nat.{sub-zero}
-use borrow.Rule.Slice.PartMut.{post_of}
-use Rattle.std.proofs.lemmas.List.{drop-replicate, length-append, take_at}
+-- Bodies that are put together in an array of zeros, and sealed into a buffer.
+use Rattle.std.proofs.Common.{◌≡◌, ℕ, ◌+◌, ◌-◌, ◌≤◌, true, leb, List, ◌∷◌, ◌++◌, length, take, drop, replicate, Option, refl, ◌∙◌, arith}
+use borrow.Rule.Slice.PartMut.{put_mid}
+use Rattle.std.proofs.lemmas.List.{drop-drop, drop-replicate, length-append, take-replicate}
+use Rattle.std.proofs.lemmas.Slice.{take-put_mid}
+use Rattle.std.proofs.lemmas.Bool.{le-leb}
+use Rattle.typeb.specs.CheckBytes.{sealed, SealedInto}
+use Rattle.typeb.proofs.Buffers.{length_sealed}
 use Rattle.tags.proofs.Lists.{listed}
 use Rattle.reader.specs.Commands.{Attrib, body_for}
 
-abbrev literal : List ℕ → ℕ → List ℕ → List ℕ
-literal s cid rest = 0x1D ∷ get_or s 0 0 ∷ get_or s 1 0 ∷ get_or s 2 0 ∷ get_or s 3 0 ∷ 0 ∷ 0 ∷ 0 ∷ cid ∷ rest
+-- eight zeros with a part over them
+pub part_of_zeros : (at : ℕ) (part copy : List ℕ) → at + length part ≤ 8 → copy ≡ part
+    → put_mid at (at + length part - at) (replicate 8 0) copy ≡ replicate at 0 ++ (part ++ replicate (8 - at - length part) 0)
+part_of_zeros at part copy room same =
+    let zeros : List ℕ = replicate 8 0 in
+    let left : 8 - (at + (at + length part - at)) ≡ 8 - at - length part = omega arith in
+    let rest : drop (at + length part - at) (drop at zeros) ≡ replicate (8 - at - length part) 0 =
+    rw (drop-drop (at + length part - at) at zeros, drop-replicate {X = ℕ} (at + (at + length part - at)) 8 0, left) refl in
+    rw (same, rest, take-replicate {X = ℕ} at 8 0 (omega arith)) refl
 
-pub attrib_filled : (s inf copy : List ℕ) (cid : ℕ) → length s ≡ 4 → length inf ≤ 5 → copy ≡ inf
-    → literal s cid (copy ++ post_of 9 (9 + length inf - 9) (literal s cid (0 ∷ 0 ∷ 0 ∷ 0 ∷ 0 ∷ []))) ≡ body_for (Attrib s cid inf) ++ replicate (5 - length inf) 0
-attrib_filled s inf copy cid four short same =
-    let n : 9 + length inf - 9 ≡ length inf = omega arith in
-    let zeros : drop (9 + length inf - 9) (replicate 5 0) ≡ replicate (5 - length inf) 0 =
-    ap (λ (k : ℕ). drop k (replicate 5 0)) n ∙ drop-replicate (length inf) 5 0 in
-    ap (λ (l : List ℕ). literal s cid (l ++ drop (9 + length inf - 9) (replicate 5 0))) same
-    ∙ ap (λ (l : List ℕ). literal s cid (inf ++ l)) zeros
-    ∙ rw (listed s 4 four) refl
+-- the body of ATTRIB, cut to its length
+pub attrib_cut : (s inf first second : List ℕ) (cid : ℕ) → length s ≡ 4 → first ≡ s → second ≡ inf
+    → take (9 + length inf - 0) (put_mid 9 (9 + length inf - 9) (0x1D ∷ first ++ (0 ∷ 0 ∷ 0 ∷ cid ∷ replicate 5 0)) second) ≡ body_for (Attrib s cid inf)
+attrib_cut s inf first second cid four serial last =
+    let whole : List ℕ = 0x1D ∷ s ++ (0 ∷ 0 ∷ 0 ∷ cid ∷ replicate 5 0) in
+    let front : take 9 whole ++ inf ≡ body_for (Attrib s cid inf) = rw (listed s 4 four) refl in
+    rw (serial, last) (take-put_mid 9 (9 + length inf - 9) whole inf (9 + length inf - 0) (omega arith) (simp length-append (omega arith)) ∙ front)
 
-pub attrib_cut : (s inf body : List ℕ) (cid : ℕ) → length s ≡ 4 → body ≡ body_for (Attrib s cid inf) ++ replicate (5 - length inf) 0
-    → take (9 + length inf - 0) body ≡ body_for (Attrib s cid inf)
-attrib_cut s inf body cid four is =
-    let long : length (body_for (Attrib s cid inf)) ≡ 9 + length inf - 0 = simp (length-append, sub-zero) (omega arith) in
-    ap (take (9 + length inf - 0)) is ∙ take_at (body_for (Attrib s cid inf)) (replicate (5 - length inf) 0) (9 + length inf - 0) long
+-- a body that was sealed into a buffer of 16 bytes or more
+pub sealed_buffer : (body lent given : List ℕ) (len : Option ℕ) → SealedInto body lent given len → length body ≤ 14 → 16 ≤ length lent
+    → given ≡ sealed body ++ drop (length (sealed body)) lent
+sealed_buffer body lent given len into short room =
+    let fits : leb (length body + 2) (length lent) ≡ true = le-leb _ _ (omega arith) in
+    into.buffer ∙ simp (fits, length_sealed body) refl

@@ -1,5 +1,4 @@
 pub mod Bodies
-pub mod Exits
 pub mod Makes
 pub mod Answered
 pub mod Judges

@@ -1,7 +1,8 @@
 -- The frame of a command in range is read back to the same command and values.
-use Rattle.std.proofs.Common.{◌≡◌, ℕ, Bool, true, false, eqb, [], ◌∷◌, ◌++◌, replicate, Some, sym, refl, subst, ⊎_elim, arith}
+use Rattle.std.proofs.Common.{◌≡◌, ℕ, Bool, true, [], ◌∷◌, ◌++◌, replicate, Some, refl, arith}
 use Rattle.std.proofs.lemmas.List.{length-append}
-use Rattle.std.proofs.lemmas.Bool.{and_parts, eqb-true, leb-true, or_cases}
+use Rattle.std.proofs.lemmas.Bool.{and_parts, leb-true}
+use Rattle.std.proofs.lemmas.Bool.Decides.{nat_tests}
 use Rattle.typeb.specs.declared.frames.Op.TheVariants as op
 use Rattle.typeb.specs.Hears.{in_body}
 use Rattle.typeb.proofs.Sealed.{sealed_heard, marker_in_body, attrib_in_body, command_in_body}
@@ -10,23 +11,12 @@ use Rattle.reader.specs.Commands.{Asked, Request, SlotMarker, Attrib, Halt, Read
 use Rattle.reader.specs.Commands.{is_slots, in_range, body_for, heard_as}
 use Rattle.reader.specs.Laws.{Sized, ReadsBack}
 
--- what holds of the five numbers of slots holds of every one in range
-of_slots : (P : ℕ → Type 0) → P 1 → P 2 → P 4 → P 8 → P 16 → (n : ℕ) → is_slots n ≡ true → P n
-of_slots P one two four eight sixteen n is =
-    let at : (k : ℕ) → P k → eqb n k ≡ true → P n = λ k p e. subst P (sym (eqb-true n k e)) p in
-    ⊎_elim (at 1 one)
-    (λ r. ⊎_elim (at 2 two)
-    (λ r. ⊎_elim (at 4 four) (λ r. ⊎_elim (at 8 eight) (at 16 sixteen) (or_cases (eqb n 8) _ r)) (or_cases (eqb n 4) _ r))
-    (or_cases (eqb n 2) _ r))
-    (or_cases (eqb n 1) _ is)
-
 -- the body of a command reads as the command
 abbrev Reads : Asked → Type 0
 Reads a = in_body (body_for a) ≡ Some (heard_as a)
 
 request_reads : (wake_up : Bool) (family slots : ℕ) → is_slots slots ≡ true → Reads (Request wake_up family slots)
-request_reads true family slots is = of_slots (λ n. Reads (Request true family n)) refl refl refl refl refl slots is
-request_reads false family slots is = of_slots (λ n. Reads (Request false family n)) refl refl refl refl refl slots is
+request_reads wake_up family slots is = grind (arith, nat_tests)
 
 body_reads : (a : Asked) → Sized a → in_range a ≡ true → Reads a
 body_reads (Request wake_up family slots) sized ok = request_reads wake_up family slots ok

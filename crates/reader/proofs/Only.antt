@@ -1,101 +1,56 @@
 -- Judging reads nothing that the command cannot bring.
 use Rattle.std.proofs.Common.{◌≡◌, ℕ, ◌+◌, ◌-◌, ◌%◌, Bool, true, false, cond, ◌&&◌, ◌||◌, eqb, leb, List, [], ◌∷◌, ◌++◌, length, get_or, take, drop, replicate, Some, Ok, Err, Result, sym, refl, ap, ◌∙◌, subst, ⊎_elim, arith}
-use Rattle.std.proofs.lemmas.List.{length-append, length-drop, length-take, take-append-drop}
-use Rattle.std.proofs.lemmas.Bool.{and_parts, cond-false, cond-true, eqb-true, eq-eqb, ne_eqb, or_cases, or_left, or_right, false≢true}
+use Rattle.std.proofs.lemmas.List.{length-drop, length-take, take-append-drop}
+use Rattle.std.proofs.lemmas.Bool.{and_parts, cond-false, cond-true, eqb-true, eq-eqb, ne_eqb, or_cases, false≢true}
 use Rattle.std.specs.Str.{bytes_eq}
 use Rattle.std.proofs.lemmas.Slice.Eq.{bytes_eq-Decides}
+use Rattle.std.proofs.lemmas.Bool.Decides.{nat_tests}
 use Rattle.refusals.specs.Numbers.{asked}
 use Rattle.typeb.specs.CheckBytes.{sealed, sound, body_of, tail_of, check_bytes}
 use Rattle.typeb.specs.declared.frames.Op.TheVariants as op
 use Rattle.typeb.specs.Hears as hears
 use Rattle.typeb.specs.Hears.{Heard, head_of}
 use Rattle.typeb.proofs.Buffers.{length_sealed}
-use Rattle.tags.specs.Says.{Says, Answer, Card, Page, Acknowledged, Refused, echo, page_named, said_body, reply_bytes}
+use Rattle.tags.specs.Says.{Says, Answer, Card, Page, Acknowledged, Refused, echo, reply_bytes}
 use Rattle.tags.proofs.Lists.{listed}
 use Rattle.reader.specs.Commands.{Asked, Request, SlotMarker, Attrib, Halt, Read, Write, Lock, CheckPassword, Deselect, Count}
 use Rattle.reader.specs.Commands.{in_range, heard_as}
-use Rattle.reader.specs.Judged.{judged, judged_answer, judged_byte, judged_data, judged_page, judged_status, sound_body, then}
+use Rattle.reader.specs.Judged.{judged, judged_answer, judged_byte, judged_data, judged_page, judged_status, fits, reads, sound_body, then}
 use Rattle.reader.specs.Laws.{JudgesOnly, Brings, Answers, to_request, to_marker, to_attrib, to_halt, to_read, read_refused, to_write, write_refused}
 use Rattle.reader.specs.Laws.{to_lock, lock_refused, to_check, check_refused, to_deselect, to_count, count_refused}
 use Rattle.reader.proofs.Ranges.{own_page}
-use Rattle.reader.proofs.Answered.{judged_at, sealed_fits, done_judged}
-
--- the length that is asked for, and how the body is read
-abbrev fits : Asked → ℕ → Bool
-fits (Request wake_up family slots) n = eqb n 14
-fits (SlotMarker slot) n = eqb n 14
-fits (Attrib serial cid inf) n = eqb n 3
-fits (Halt serial) n = eqb n 3
-fits (Read cid page) n = eqb n 12 || eqb n 4
-fits (Write cid page bytes) n = eqb n 4
-fits (Lock cid locks) n = eqb n 4
-fits (CheckPassword cid password) n = eqb n 4
-fits (Deselect cid) n = eqb n 4
-fits (Count cid signature) n = eqb n 4
-
-abbrev reads : Asked → List ℕ → Result Says ℕ
-reads (Request wake_up family slots) = judged_answer
-reads (SlotMarker slot) = judged_answer
-reads (Attrib serial cid inf) = judged_byte cid (Card cid)
-reads (Halt serial) = judged_byte 0x00 Acknowledged
-reads (Read cid page) = judged_page (head_of op.Read cid) page
-reads (Write cid page bytes) = judged_data (head_of op.Write cid) true true
-reads (Lock cid locks) = judged_data (head_of op.Lock cid) true true
-reads (CheckPassword cid password) = judged_data (head_of op.CheckPassword cid) true true
-reads (Deselect cid) = judged_data (head_of op.Deselect cid) true false
-reads (Count cid signature) = judged_data (head_of op.Count cid) true true
-
-judged_is : (a : Asked) (bytes : List ℕ) → judged a bytes ≡ then (sound_body (fits a (length bytes)) bytes) (reads a)
-judged_is (Request wake_up family slots) bytes = refl
-judged_is (SlotMarker slot) bytes = refl
-judged_is (Attrib serial cid inf) bytes = refl
-judged_is (Halt serial) bytes = refl
-judged_is (Read cid page) bytes = refl
-judged_is (Write cid page content) bytes = refl
-judged_is (Lock cid locks) bytes = refl
-judged_is (CheckPassword cid password) bytes = refl
-judged_is (Deselect cid) bytes = refl
-judged_is (Count cid signature) bytes = refl
+use Rattle.reader.proofs.Answered.{said, fit_said, judged_sealed, done_reads}
 
 -- a question that was passed
 passed : {A : Type 0} (t : Bool) (why : ℕ) (go : Result A ℕ) (x : A) → asked t why go ≡ Ok x → (t ≡ true) × (go ≡ Ok x)
 passed true why go x e = (refl, e)
-passed false why go x e = let z : ◌≡◌ {A = ℕ} 0 1 = cc in absurd (omega arith)
+passed false why go x e = absurd cc
 
 both_passed : (f s : Bool) (body : List ℕ) (next : List ℕ → Result Says ℕ) (x : Says) → then (asked f 9 (asked s 10 (Ok body))) next ≡ Ok x
     → (f ≡ true) × (s ≡ true) × (next body ≡ Ok x)
 both_passed true true body next x e = (refl, refl, e)
-both_passed true false body next x e = let z : ◌≡◌ {A = ℕ} 0 1 = cc in absurd (omega arith)
-both_passed false s body next x e = let z : ◌≡◌ {A = ℕ} 0 1 = cc in absurd (omega arith)
-
--- the body of the reply of a tag that says it
-abbrev said : Asked → Says → List ℕ
-said a s = said_body (echo (heard_as a)) (page_named (heard_as a)) s
+both_passed true false body next x e = absurd cc
+both_passed false s body next x e = absurd cc
 
 -- every length that is asked for is that of something said
 abbrev Said : Asked → ℕ → Type 0
-Said a n = (s : Says) × Answers a s × (n ≡ length (reply_bytes (heard_as a) (Some s)))
-
-said_by_lem : (a : Asked) (n m : ℕ) (s : Says) → Answers a s → length (said a s) + 2 ≡ m → eqb n m ≡ true → Said a n
-said_by_lem a n m s answers long t =
-    (s, answers, eqb-true n m t ∙ sym long ∙ sym (length_sealed (said a s)))
+Said a n = (s : Says) × Answers a s × (n ≡ length (said a s) + 2)
 
 some_said : (a : Asked) (n : ℕ) → fits a n ≡ true → Said a n
-some_said (Request wake_up family slots) n t =
-    said_by_lem (Request wake_up family slots) n 14 (Answer (replicate 4 0) (replicate 4 0) (replicate 3 0)) (to_request refl refl refl) refl t
-some_said (SlotMarker slot) n t = said_by_lem (SlotMarker slot) n 14 (Answer (replicate 4 0) (replicate 4 0) (replicate 3 0)) (to_marker refl refl refl) refl t
-some_said (Attrib serial cid inf) n t = said_by_lem (Attrib serial cid inf) n 3 (Card cid) to_attrib refl t
-some_said (Halt serial) n t = said_by_lem (Halt serial) n 3 Acknowledged to_halt refl t
+some_said (Request wake_up family slots) n t = (Answer (replicate 4 0) (replicate 4 0) (replicate 3 0), to_request refl refl refl, eqb-true n 14 t)
+some_said (SlotMarker slot) n t = (Answer (replicate 4 0) (replicate 4 0) (replicate 3 0), to_marker refl refl refl, eqb-true n 14 t)
+some_said (Attrib serial cid inf) n t = (Card cid, to_attrib, eqb-true n 3 t)
+some_said (Halt serial) n t = (Acknowledged, to_halt, eqb-true n 3 t)
 some_said (Read cid page) n t =
     ⊎_elim
-    (λ e. said_by_lem (Read cid page) n 12 (Page (replicate 8 0)) (to_read refl) refl e)
-    (λ e. said_by_lem (Read cid page) n 4 (Refused 1) (read_refused refl) refl e)
+    (λ e. (Page (replicate 8 0), to_read refl, eqb-true n 12 e))
+    (λ e. (Refused 1, read_refused refl, eqb-true n 4 e))
     (or_cases (eqb n 12) (eqb n 4) t)
-some_said (Write cid page bytes) n t = said_by_lem (Write cid page bytes) n 4 Acknowledged to_write refl t
-some_said (Lock cid locks) n t = said_by_lem (Lock cid locks) n 4 Acknowledged to_lock refl t
-some_said (CheckPassword cid password) n t = said_by_lem (CheckPassword cid password) n 4 Acknowledged to_check refl t
-some_said (Deselect cid) n t = said_by_lem (Deselect cid) n 4 Acknowledged to_deselect refl t
-some_said (Count cid signature) n t = said_by_lem (Count cid signature) n 4 Acknowledged to_count refl t
+some_said (Write cid page bytes) n t = (Acknowledged, to_write, eqb-true n 4 t)
+some_said (Lock cid locks) n t = (Acknowledged, to_lock, eqb-true n 4 t)
+some_said (CheckPassword cid password) n t = (Acknowledged, to_check, eqb-true n 4 t)
+some_said (Deselect cid) n t = (Acknowledged, to_deselect, eqb-true n 4 t)
+some_said (Count cid signature) n t = (Acknowledged, to_count, eqb-true n 4 t)
 
 misfit : (f : Bool) (bytes : List ℕ) (next : List ℕ → Result Says ℕ) → (f ≡ true → ⊥) → then (sound_body f bytes) next ≡ Err 9
 misfit true bytes next not = absurd (not refl)
@@ -103,81 +58,26 @@ misfit false bytes next not = refl
 
 wrong_length : (a : Asked) (bytes : List ℕ) → ((s : Says) → Answers a s → length bytes ≡ length (reply_bytes (heard_as a) (Some s)) → ⊥) → judged a bytes ≡ Err 9
 wrong_length a bytes none =
-    judged_is a bytes ∙ misfit (fits a (length bytes)) bytes (reads a) (λ t. let s = some_said a (length bytes) t in none s.0 s.1 s.2)
+    misfit (fits a (length bytes)) bytes (reads a)
+    (λ t. let s = some_said a (length bytes) t in none s.0 s.1 (s.2 ∙ sym (length_sealed (said a s.0))))
 
--- and the length of everything said is asked for
-answer_fits : (serial application protocol : List ℕ) → length serial ≡ 4 → length application ≡ 4 → length protocol ≡ 3
-    → eqb (length (sealed (0x50 ∷ serial ++ application ++ protocol))) 14 ≡ true
-answer_fits serial application protocol x y z = sealed_fits (0x50 ∷ serial ++ application ++ protocol) 14 (simp length-append (omega arith))
-
-page_fits : (head page : ℕ) (bytes : List ℕ) → length bytes ≡ 8 → eqb (length (sealed (head ∷ page ∷ bytes))) 12 ≡ true
-page_fits head page bytes eight = sealed_fits (head ∷ page ∷ bytes) 12 (omega arith)
-
-byte_fits : (byte : ℕ) → eqb (length (sealed (byte ∷ []))) 3 ≡ true
-byte_fits byte = sealed_fits (byte ∷ []) 3 refl
-
-status_fits : (head status : ℕ) → eqb (length (sealed (head ∷ status ∷ []))) 4 ≡ true
-status_fits head status = sealed_fits (head ∷ status ∷ []) 4 refl
-
-fit_said : {a : Asked} {s : Says} → Answers a s → fits a (length (reply_bytes (heard_as a) (Some s))) ≡ true
-fit_said (to_request x y z) = answer_fits _ _ _ x y z
-fit_said (to_marker x y z) = answer_fits _ _ _ x y z
-fit_said to_attrib = byte_fits _
-fit_said to_halt = byte_fits _
-fit_said (to_read eight) = or_left _ _ (page_fits _ _ _ eight)
-fit_said (read_refused one) = or_right _ _ (status_fits _ _)
-fit_said to_write = status_fits _ _
-fit_said (write_refused one) = status_fits _ _
-fit_said to_lock = status_fits _ _
-fit_said (lock_refused one) = status_fits _ _
-fit_said to_check = status_fits _ _
-fit_said (check_refused one) = status_fits _ _
-fit_said to_deselect = status_fits _ _
-fit_said to_count = status_fits _ _
-fit_said (count_refused one) = status_fits _ _
-
+-- at the length of something said only the check bytes count, and then the body
 at_length : (a : Asked) (bytes : List ℕ) (s : Says) (ok : Bool) → Answers a s → length bytes ≡ length (reply_bytes (heard_as a) (Some s)) → sound bytes ≡ ok
     → judged a bytes ≡ then (asked ok 10 (Ok (body_of bytes))) (reads a)
 at_length a bytes s ok answers long is =
-    let fit : fits a (length bytes) ≡ true = ap (fits a) long ∙ fit_said answers in
-    judged_is a bytes ∙ ap (λ f. then (sound_body f bytes) (reads a)) fit ∙ ap (λ t. then (asked t 10 (Ok (body_of bytes))) (reads a)) is
+    let fit : fits a (length bytes) ≡ true = ap (fits a) (long ∙ length_sealed (said a s)) ∙ (fit_said answers).1 in
+    ap (λ f. then (sound_body f bytes) (reads a)) fit ∙ ap (λ t. then (asked t 10 (Ok (body_of bytes))) (reads a)) is
 
 -- what is sound, of a length that fits, and not read, is refused by 11
-not_passed : {A : Type 0} (t : Bool) (go : Result A ℕ) (why : ℕ) → asked t 11 go ≡ Err why → (go ≡ Err why → why ≡ 11) → why ≡ 11
-not_passed true go why e later = later e
-not_passed false go why e later = cc
-
-not_status : (done refused : Bool) (code why : ℕ) → cond {A = Result Says ℕ} done (Ok Acknowledged) (cond refused (Ok (Refused code)) (Err 11)) ≡ Err why → why ≡ 11
-not_status true refused code why e = let z : ◌≡◌ {A = ℕ} 0 1 = cc in absurd (omega arith)
-not_status false true code why e = let z : ◌≡◌ {A = ℕ} 0 1 = cc in absurd (omega arith)
-not_status false false code why e = cc
-
-read_so : (s : Says) (why : ℕ) → Ok s ≡ Err why → why ≡ 11
-read_so s why e = let z : ◌≡◌ {A = ℕ} 0 1 = cc in absurd (omega arith)
-
 not_data : (head : ℕ) (may_ack may_nack : Bool) (body : List ℕ) (why : ℕ) → judged_data head may_ack may_nack body ≡ Err why → why ≡ 11
-not_data head may_ack may_nack body why e =
-    not_passed (eqb (get_or body 0 0) head) (judged_status may_ack may_nack (get_or body 1 0)) why e
-    (not_status (may_ack && eqb (get_or body 1 0 % 16) 0) (may_nack && eqb (get_or body 1 0 % 16) 1) (get_or body 1 0) why)
-
-not_page : (long own : Bool) (bytes : List ℕ) (rest : Result Says ℕ) (why : ℕ) → cond long (asked own 11 (Ok (Page bytes))) rest ≡ Err why → (rest ≡ Err why → why ≡ 11) → why ≡ 11
-not_page true own bytes rest why e later = not_passed own (Ok (Page bytes)) why e (read_so (Page bytes) why)
-not_page false own bytes rest why e later = later e
-
-not_answer : (body : List ℕ) (why : ℕ) → judged_answer body ≡ Err why → why ≡ 11
-not_answer body why e = not_passed (eqb (get_or body 0 0) 0x50) _ why e (read_so _ why)
-
-not_byte : (byte : ℕ) (says : Says) (body : List ℕ) (why : ℕ) → judged_byte byte says body ≡ Err why → why ≡ 11
-not_byte byte says body why e = not_passed (eqb (get_or body 0 0) byte) (Ok says) why e (read_so says why)
+not_data head may_ack may_nack body why e = grind (arith, nat_tests)
 
 not_read : (a : Asked) (body : List ℕ) (why : ℕ) → reads a body ≡ Err why → why ≡ 11
-not_read (Request wake_up family slots) body why e = not_answer body why e
-not_read (SlotMarker slot) body why e = not_answer body why e
-not_read (Attrib serial cid inf) body why e = not_byte cid (Card cid) body why e
-not_read (Halt serial) body why e = not_byte 0x00 Acknowledged body why e
-not_read (Read cid page) body why e =
-    not_page (eqb (length body) 10) (eqb (get_or body 0 0) (head_of op.Read cid) && eqb (get_or body 1 0) page) (drop 2 body) _ why e
-    (not_data (head_of op.Read cid) false true body why)
+not_read (Request wake_up family slots) body why e = grind (arith, nat_tests)
+not_read (SlotMarker slot) body why e = grind (arith, nat_tests)
+not_read (Attrib serial cid inf) body why e = grind (arith, nat_tests)
+not_read (Halt serial) body why e = grind (arith, nat_tests)
+not_read (Read cid page) body why e = grind (arith, nat_tests)
 not_read (Write cid page bytes) body why e = not_data (head_of op.Write cid) true true body why e
 not_read (Lock cid locks) body why e = not_data (head_of op.Lock cid) true true body why e
 not_read (CheckPassword cid password) body why e = not_data (head_of op.CheckPassword cid) true true body why e
@@ -233,7 +133,7 @@ module _ (a : Asked) (body : List ℕ) (s : Says) where
       → cond {A = Result Says ℕ} done (Ok Acknowledged) (cond refused (Ok (Refused code)) (Err 11)) ≡ Ok s → Bodied a body s
   status_bodied true refused code p q e = let is : Acknowledged ≡ s = cc in subst (Bodied a body) is (p refl)
   status_bodied false true code p q e = let is : Refused code ≡ s = cc in subst (Bodied a body) is (q refl)
-  status_bodied false false code p q e = let z : ◌≡◌ {A = ℕ} 0 1 = cc in absurd (omega arith)
+  status_bodied false false code p q e = absurd cc
 
   data_bodied : (head : ℕ) (may_ack may_nack : Bool) → (may_ack ≡ true → Answers a Acknowledged) → (may_nack ≡ true → (code : ℕ) → code % 16 ≡ 1 → Answers a (Refused code))
       → echo (heard_as a) ≡ head ∷ [] → length body ≡ 2 → judged_data head may_ack may_nack body ≡ Ok s → Bodied a body s
@@ -272,7 +172,7 @@ page_bodied cid page body s long e =
       answers = to_read eight;
       long = ap length front;
       first = ap (λ b. get_or (sealed b) 0 0) front;
-      done = λ is. let z : ◌≡◌ {A = ℕ} 0 1 = cc is in absurd (omega arith);
+      done = λ is. absurd (cc is);
       whole = λ ok other. front ∙ ap (λ p. head_of op.Read cid ∷ p ∷ drop 2 body) (sym (own_page cid page ok));
     })
 
@@ -321,14 +221,14 @@ sound_sealed frame ok =
 
 module _ (a : Asked) (bytes : List ℕ) (s : Says) (e : judged a bytes ≡ Ok s) where
   checked : sound bytes ≡ true
-  checked = (both_passed (fits a (length bytes)) (sound bytes) (body_of bytes) (reads a) s (sym (judged_is a bytes) ∙ e)).1
+  checked = (both_passed (fits a (length bytes)) (sound bytes) (body_of bytes) (reads a) s (e)).1
 
   body_long : length bytes ≡ length (body_of bytes) + 2
   body_long = ap length (sound_sealed bytes checked) ∙ length_sealed (body_of bytes)
 
   body_read : Bodied a (body_of bytes) s
   body_read =
-      let r = both_passed (fits a (length bytes)) (sound bytes) (body_of bytes) (reads a) s (sym (judged_is a bytes) ∙ e) in
+      let r = both_passed (fits a (length bytes)) (sound bytes) (body_of bytes) (reads a) s (e) in
       bodied a (body_of bytes) s (ap (fits a) (sym body_long) ∙ r.0) r.2
 
   brought : Brings a bytes s
@@ -348,20 +248,16 @@ module _ (a : Asked) (bytes : List ℕ) (s : Says) (e : judged a bytes ≡ Ok s)
       ∙ body_read.done is
 
 -- an acknowledgement with any high nibble
-high_data : (own head status : ℕ) (may_nack : Bool) → ◌≡◌ {A = List ℕ} (own ∷ []) (head ∷ []) → status % 16 ≡ 0
-    → judged_at 4 (judged_data own true may_nack) (sealed (head ∷ status ∷ [])) ≡ Ok Acknowledged
-high_data own head status may_nack same zero =
-    let is : own ≡ head = cc in
-    subst (λ h. judged_at 4 (judged_data own true may_nack) (sealed (h ∷ status ∷ [])) ≡ Ok Acknowledged) is (done_judged own status may_nack zero)
+own_reads : (own head status : ℕ) (may_nack : Bool) → ◌≡◌ {A = List ℕ} (own ∷ []) (head ∷ []) → status % 16 ≡ 0 → judged_data own true may_nack (head ∷ status ∷ []) ≡ Ok Acknowledged
+own_reads own head status may_nack same zero = let is : head ≡ own = cc in rw is (done_reads own status may_nack zero)
 
-high_nibble : {a : Asked} → Answers a Acknowledged → (head status : ℕ) → echo (heard_as a) ≡ head ∷ [] → status % 16 ≡ 0
-    → judged a (sealed (head ∷ status ∷ [])) ≡ Ok Acknowledged
-high_nibble to_halt head status own zero = let z : ◌≡◌ {A = ℕ} 0 1 = cc in absurd (omega arith)
-high_nibble to_write head status own zero = high_data _ head status true own zero
-high_nibble to_lock head status own zero = high_data _ head status true own zero
-high_nibble to_check head status own zero = high_data _ head status true own zero
-high_nibble to_deselect head status own zero = high_data _ head status false own zero
-high_nibble to_count head status own zero = high_data _ head status true own zero
+high_reads : {a : Asked} → Answers a Acknowledged → (head status : ℕ) → echo (heard_as a) ≡ head ∷ [] → status % 16 ≡ 0 → (fits a 4 ≡ true) × (reads a (head ∷ status ∷ []) ≡ Ok Acknowledged)
+high_reads to_halt head status own zero = absurd cc
+high_reads to_write head status own zero = (refl, own_reads _ head status true own zero)
+high_reads to_lock head status own zero = (refl, own_reads _ head status true own zero)
+high_reads to_check head status own zero = (refl, own_reads _ head status true own zero)
+high_reads to_deselect head status own zero = (refl, own_reads _ head status false own zero)
+high_reads to_count head status own zero = (refl, own_reads _ head status true own zero)
 
 pub judges_only : JudgesOnly
 judges_only =
@@ -369,7 +265,9 @@ judges_only =
       brought = brought;
       whole = λ a bytes s ok other e. sound_sealed bytes (checked a bytes s e) ∙ ap sealed ((body_read a bytes s e).whole ok other);
       low_nibble = λ a bytes e. done a bytes Acknowledged e refl;
-      high_nibble = λ a head status answers. high_nibble answers head status;
+      high_nibble = λ a head status answers own zero.
+          let high = high_reads answers head status own zero in
+          judged_sealed a (head ∷ status ∷ []) (omega arith) high.0 ∙ high.1;
       wrong_length = wrong_length;
       unsound = λ a bytes s answers long wrong. at_length a bytes s false answers long wrong;
       unexpected = λ a bytes s why answers long right e. not_read a (body_of bytes) why (sym (at_length a bytes s true answers long right) ∙ e);

@@ -1,14 +1,14 @@
 -- What a tag hears of a command: its values, and zero for the rest. And which values are in range.
-use Rattle.std.proofs.Common.{◌≡◌, ℕ, ◌%◌, ◌<◌, Bool, true, false, ◌&&◌, leb, [], ◌∷◌, length, get_or, replicate, refl, ap, arith}
+use Rattle.std.proofs.Common.{◌≡◌, ℕ, ◌%◌, ◌<◌, Bool, true, ◌&&◌, leb, [], ◌∷◌, length, get_or, replicate, refl, ap, arith}
 use Rattle.std.proofs.lemmas.List.{drop_at, take_at}
-use Rattle.std.proofs.lemmas.Bool.{and_from, and_parts, le-leb, leb-true}
+use Rattle.std.proofs.lemmas.Bool.{and_parts, leb-true}
 use Rattle.std.proofs.lemmas.Bool.Decides.{nat_tests}
 use Rattle.typeb.specs.declared.frames.Slots.{Slots}
 use Rattle.typeb.specs.declared.frames.Slots.TheVariants.{One, Two, Four, Eight, Sixteen}
 use Rattle.typeb.specs.Hears as hears
 use Rattle.typeb.specs.Hears.{slot_count}
 use Rattle.reader.specs.Commands.{Asked, Request, SlotMarker, Attrib, Halt, Read, Write, Lock, CheckPassword, Deselect, Count}
-use Rattle.reader.specs.Commands.{in_range, slot_code, frame_for, heard_as}
+use Rattle.reader.specs.Commands.{in_range, frame_for, heard_as}
 use Rattle.reader.specs.Laws.{Sized, IdleIsZero, idle, NamesAll, heeded, named}
 
 idle_zero : (a : Asked) → Sized a → idle (heard_as a) ≡ replicate (length (idle (heard_as a))) 0
@@ -23,12 +23,8 @@ idle_zero (CheckPassword cid password) sized = refl
 idle_zero (Deselect cid) sized = refl
 idle_zero (Count cid signature) sized = rw (drop_at signature (0 ∷ 0 ∷ []) 6 sized) refl
 
-small_code : (slots : ℕ) → slot_code slots < 5
-small_code slots = grind (arith, nat_tests)
-
 small_bits : (wake_up : Bool) (family slots : ℕ) → get_or (frame_for (Request wake_up family slots)) 2 0 < 16
-small_bits true family slots = omega (arith, small_code slots)
-small_bits false family slots = omega (arith, small_code slots)
+small_bits wake_up family slots = grind (arith, nat_tests)
 
 pub idle_is_zero : IdleIsZero
 idle_is_zero = record { bytes = idle_zero; bits = small_bits }
@@ -68,12 +64,10 @@ names_all =
     record {
       same = values_heard;
       request = request_heard;
-      pages = λ cid page bytes low in_tag.
-          let both = and_from _ _ (le-leb cid 15 (omega arith)) (le-leb page 31 (omega arith)) in
-          (both, both);
-      cards = λ cid bytes low. let card = le-leb cid 15 (omega arith) in (card, card, card, card);
-      attribs = λ serial inf cid low short. and_from _ _ (le-leb cid 15 (omega arith)) (le-leb (length inf) 5 (omega arith));
+      pages = λ cid page bytes low in_tag. grind (arith, nat_tests);
+      cards = λ cid bytes low. grind (arith, nat_tests);
+      attribs = λ serial inf cid low short. grind (arith, nat_tests);
       requests = any_slots;
-      markers = λ slot low high. and_from _ _ (le-leb 2 slot (omega arith)) (le-leb slot 16 (omega arith));
+      markers = λ slot low high. grind (arith, nat_tests);
       halts = λ serial. refl;
     }

@@ -51,25 +51,40 @@ judged_page head page body =
     (asked (slice_index body 0 == head && slice_index body 1 == page) 11 (Ok (Page (drop 2 body))))
     (judged_data head false true body)
 
-abbrev pub judged : Asked → List ℕ → Result Says ℕ
-judged (Request wake_up family slots) bytes = then (sound_body (length bytes == 14) bytes) judged_answer
-judged (SlotMarker slot) bytes = then (sound_body (length bytes == 14) bytes) judged_answer
-judged (Attrib serial cid inf) bytes = then (sound_body (length bytes == 3) bytes) (judged_byte cid (Card cid))
-judged (Halt serial) bytes = then (sound_body (length bytes == 3) bytes) (judged_byte 0x00 Acknowledged)
-judged (Read cid page) bytes =
-    then (sound_body (length bytes == 12 || length bytes == 4) bytes) (judged_page (head_of op.Read cid) page)
-judged (Write cid page content) bytes = then (sound_body (length bytes == 4) bytes) (judged_data (head_of op.Write cid) true true)
-judged (Lock cid locks) bytes = then (sound_body (length bytes == 4) bytes) (judged_data (head_of op.Lock cid) true true)
-judged (CheckPassword cid password) bytes =
-    then (sound_body (length bytes == 4) bytes) (judged_data (head_of op.CheckPassword cid) true true)
-judged (Deselect cid) bytes = then (sound_body (length bytes == 4) bytes) (judged_data (head_of op.Deselect cid) true false)
-judged (Count cid signature) bytes = then (sound_body (length bytes == 4) bytes) (judged_data (head_of op.Count cid) true true)
+-- The lengths that a command can bring.
+abbrev pub fits : Asked → ℕ → Bool
+fits (Request wake_up family slots) n = n == 14
+fits (SlotMarker slot) n = n == 14
+fits (Attrib serial cid inf) n = n == 3
+fits (Halt serial) n = n == 3
+fits (Read cid page) n = n == 12 || n == 4
+fits (Write cid page content) n = n == 4
+fits (Lock cid locks) n = n == 4
+fits (CheckPassword cid password) n = n == 4
+fits (Deselect cid) n = n == 4
+fits (Count cid signature) n = n == 4
 
--- What a value of the code stands for, with what its reference points to.
+-- What a body says in answer to a command.
+abbrev pub reads : Asked → List ℕ → Result Says ℕ
+reads (Request wake_up family slots) = judged_answer
+reads (SlotMarker slot) = judged_answer
+reads (Attrib serial cid inf) = judged_byte cid (Card cid)
+reads (Halt serial) = judged_byte 0x00 Acknowledged
+reads (Read cid page) = judged_page (head_of op.Read cid) page
+reads (Write cid page content) = judged_data (head_of op.Write cid) true true
+reads (Lock cid locks) = judged_data (head_of op.Lock cid) true true
+reads (CheckPassword cid password) = judged_data (head_of op.CheckPassword cid) true true
+reads (Deselect cid) = judged_data (head_of op.Deselect cid) true false
+reads (Count cid signature) = judged_data (head_of op.Count cid) true true
+
+abbrev pub judged : Asked → List ℕ → Result Says ℕ
+judged command bytes = then (sound_body (fits command (length bytes)) bytes) (reads command)
+
+-- What a value of the code stands for.
 abbrev pub said_in : Reply → Says
 said_in (reply.Answer serial application protocol) = Answer serial application protocol
 said_in (reply.Card cid) = Card cid
-said_in (reply.Page bytes) = Page bytes.now
+said_in (reply.Page bytes) = Page bytes
 said_in reply.Acknowledged = Acknowledged
 said_in (reply.Refused code) = Refused code
 

@@ -6,7 +6,8 @@ use typeb::frames::Serial;
 
 #[derive(Clone, Copy)]
 pub enum Command<'a> {
-    // REQB, or WUPB where `wake_up` is set; `slots` is 1, 2, 4, 8 or 16
+    // REQB, or WUPB where `wake_up` is set; `slots` is 1, 2, 4, 8 or 16. It is a byte, and no `Slots`, since `make` takes
+    // any number and says where it is out of range: a narrower type would ask that of each caller.
     Request {
         wake_up: bool,
         family: u8,
@@ -52,7 +53,8 @@ pub enum Command<'a> {
     },
 }
 
-// A command from its values. `make` says whether they are in range.
+// A command from its values. `make` says whether they are in range. A caller may also write a variant in place: these
+// are the shorter form, with a clause that says what the command asks.
 impl<'a> Command<'a> {
     pub fn request(wake_up: bool, family: u8, slots: u8) -> Command<'a>
         ensures { asked_of result ≡ Request wake_up family slots }

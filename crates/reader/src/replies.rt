@@ -2,7 +2,7 @@
 use typeb::frames::Serial;
 
 #[derive(Clone, Copy)]
-pub enum Reply<'a> {
+pub enum Reply {
     // ATQB: the answer to a request
     Answer {
         serial: Serial,
@@ -11,9 +11,9 @@ pub enum Reply<'a> {
     },
     // the card number that the tag took
     Card(u8),
-    // the page that was asked for, a part of the reply
-    Page(&'a [u8; 8]),
+    // the page that was asked for
+    Page([u8; 8]),
     Acknowledged,
-    // the NACK's code
+    // the NACK's code: any byte with low nibble 1 is one, so it stays a byte
     Refused(u8),
 }

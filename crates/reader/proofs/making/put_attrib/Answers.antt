@@ -4,5 +4,5 @@ use Rattle.reader.proofs.making.put_attrib.Goals as goal
 
 pub returns : goal.returns
 returns c =
-    let e = attrib_cut c.args.serial c.args.inf.now c.attrib_body-body.result c.args.cid (search rules) c.attrib_body-body.ensures in
-    rw e at c.put.ensures
+    let e = attrib_cut c.args.serial c.args.inf.now _ _ c.args.cid (search rules) c.copy_from_slice.ensures.after c.copy_from_slice-2.ensures.after in
+    rw e at c.seal_into.ensures
