@@ -1,7 +1,7 @@
-pub mod Voices
 pub mod Walks
 pub mod Meets
 pub mod Lined
+pub mod Asked
 pub mod Near
 pub mod HiddenPart
 pub mod CountFrames
@@ -10,10 +10,10 @@ pub mod PumpRows
 pub mod Mild
 pub mod Held
 pub mod Locked
-pub mod Speaks
 pub mod Slots
 pub mod Rounds
 pub mod Stocked
 pub mod Tallies
 pub mod Worked
 pub mod Powered
+pub mod Lawful

@@ -1,12 +1,11 @@
 -- No run undoes a lock or loses a count, in front and behind.
-use Rattle.std.proofs.Common.{ℕ, ◌-◌, Bool, true, false, cond, List, refl}
-use Rattle.tags.specs.Common.{Shown}
+use Rattle.std.proofs.Common.{◌-◌, Bool, true, false, cond, refl}
 use Rattle.tags.specs.Kinds.{Behaviour}
 use Rattle.tags.specs.Pump.{pump_acts}
 use Rattle.tray_core.specs.Laws.{LocksFront, LocksBack, CountsFront, CountsBack, counts_front, counts_back}
-use Rattle.tray_core.specs.Trays.{Model, in_front}
+use Rattle.tray_core.specs.Trays.{in_front}
 use Rattle.tray_core.proofs.Held.{Rowed, kept, counted}
-use Rattle.tray_core.proofs.PumpRows.{Pumps, Quiet, Hearing, made_row, quiet_same, quiet_gains, quiet_loses, quiet_placed, quiet_lifted, row_hears_lem, row_deaf}
+use Rattle.tray_core.proofs.PumpRows.{Pumps, front, back, Quiet, Hearing, made_row, quiet_same, quiet_gains, quiet_loses, quiet_placed, quiet_lifted, row_hears_lem, row_deaf}
 
 -- the row of the tray that a test picks
 picked : {T : Type 0} (row : T → Pumps) (P : Bool → Pumps → Type 0) (test : Bool) (t u : T) → P true (row t) → P false (row u) → P test (row (cond test t u))
@@ -14,12 +13,6 @@ picked row P true t u holds fails = holds
 picked row P false t u holds fails = fails
 
 module _ {S H : Type 0} where
-  abbrev front : Model Shown (List ℕ) S H → Pumps
-  front t = t.front
-
-  abbrev back : Model S H Shown (List ℕ) → Pumps
-  back t = t.back
-
   front_rowed : (B : Behaviour S H) → Rowed pump_acts B front (counts_front B)
   front_rowed B =
       record {

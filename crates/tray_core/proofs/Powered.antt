@@ -14,7 +14,7 @@ use Rattle.tray_core.specs.Scripts.{Script, done, send, after_play}
 use Rattle.tray_core.specs.Step.{Asks, On, Off, Place, Lift, Frame, Stock, refused_by, unless_refused}
 use Rattle.tray_core.specs.Stock.{stocktaking}
 use Rattle.tray_core.specs.Trays.{Model, in_front, turned_on, turned_off, with_placed, with_lifted, after_frame, sounds_of}
-use Rattle.tray_core.proofs.PumpRows.{Pumps}
+use Rattle.tray_core.proofs.PumpRows.{Pumps, front, back}
 
 -- a place, by its flag and its tag: off exactly while it has no power
 abbrev LitAt : Bool → Bool → PumpMeaning → Type 0
@@ -105,12 +105,6 @@ module _ {SF HF SB HB : Type 0} (F : Behaviour SF HF) (B : Behaviour SB HB) (row
         runs (turn F B c t).tray cs (called (refused_by c.call t c.buffer c.list) c.call t c.buffer c.list lit)
 
 module _ {S H : Type 0} where
-  abbrev front : Model Shown (List ℕ) S H → Pumps
-  front t = t.front
-
-  abbrev back : Model S H Shown (List ℕ) → Pumps
-  back t = t.back
-
   front_lights : (B : Behaviour S H) → Lights pump_acts B front
   front_lights B =
       record {

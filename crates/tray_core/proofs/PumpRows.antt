@@ -7,6 +7,7 @@ use Rattle.tags.specs.Pump.{PumpMeaning, pump_acts}
 use Rattle.tags.proofs.Moves.{Good, Moves, moves_trans, made_good}
 use Rattle.tray_core.specs.Laws.{AllMade, pump_at, here_at, is_count, counts_now}
 use Rattle.tray_core.specs.Rows.{Post, if_here, change_at, row_gains, row_loses, placed, lifted, hearing, row_hears}
+use Rattle.tray_core.specs.Trays.{Model}
 use Rattle.tray_core.proofs.Pumps.{still, gains_moves, loses_moves, hears_moves}
 
 -- a place for a pump tag, and a row of such places
@@ -15,6 +16,14 @@ Pump = Post Shown (List ℕ)
 
 abbrev pub Pumps : Type 0
 Pumps = List Pump
+
+-- such a row of a tray, in front and behind
+module _ {S H : Type 0} where
+  abbrev pub front : Model Shown (List ℕ) S H → Pumps
+  front t = t.front
+
+  abbrev pub back : Model S H Shown (List ℕ) → Pumps
+  back t = t.back
 
 -- every tag just made is good
 pub made_row : (row : Pumps) → AllMade row → (n : ℕ) → n < length row → Good (pump_at n row)

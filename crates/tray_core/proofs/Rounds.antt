@@ -1,5 +1,5 @@
 -- A round slot by slot, and a stock round by round: what is left of the script from here gives the whole.
-use Rattle.std.proofs.Common.{◌≡◌, ℕ, suc, ◌+◌, ◌-◌, ◌<◌, ◌≤◌, Bool, true, false, cond, List, [], length, get_or, drop, sym, refl, ap, ◌∙◌, arith}
+use Rattle.std.proofs.Common.{◌≡◌, ℕ, suc, ◌+◌, ◌-◌, ◌<◌, ◌≤◌, Bool, true, false, cond, List, [], length, get_or, drop, sym, ap, ◌∙◌, arith}
 use Rattle.std.proofs.lemmas.List.{drop_all, drop-drop, drop_more}
 use Rattle.tags.specs.Kinds.{Behaviour}
 use Rattle.tray_core.specs.declared.progress.Progress.{Progress}
@@ -25,9 +25,6 @@ goes_more k a b c la lb lc p q =
       most = omega arith;
       rest = q.rest ∙ drop_later b.listed c.listed lb la q.more p.rest;
     }
-
-pub goes_none : (a : Progress) (l : List (List ℕ)) → GoesOn 0 a l a l
-goes_none a l = record { frames = omega arith; clashes = omega arith; rounds = refl; more = omega arith; most = omega arith; rest = refl }
 
 module _ {SF HF SB HB : Type 0} (F : Behaviour SF HF) (B : Behaviour SB HB) where
   pub same_end : {r s q : Script Tally} {t u v : Model SF HF SB HB} → SameEnd F B r t s u → SameEnd F B s u q v → SameEnd F B r t q v

@@ -1,10 +1,9 @@
 -- What holds of the count of every stock, whatever the reader hears.
-use Rattle.std.proofs.Common.{◌≡◌, ℕ, zero, suc, ◌+◌, ◌*◌, ◌≤◌, Bool, true, false, cond, List, [], ◌∷◌, ◌++◌, length, Some, None, Option, sym, refl, ◌∙◌, arith, lit≤}
+use Rattle.std.proofs.Common.{◌≡◌, ℕ, zero, suc, ◌+◌, ◌*◌, ◌≤◌, Bool, true, false, cond, List, [], ◌∷◌, ◌++◌, length, Some, None, Option, refl, ◌∙◌, arith, lit≤}
 use Rattle.std.specs.Str.{bytes_eq}
-use Rattle.std.proofs.lemmas.Slice.Eq.{bytes_eq-Decides}
+use Rattle.std.proofs.lemmas.Cmp.{nat_list_eq_equiv}
 use Rattle.std.proofs.lemmas.List.{length_push}
 use Rattle.std.proofs.lemmas.Bool.{or_parts, or_from}
-use Rattle.std.proofs.lemmas.Bool.Decides.{same_from_decides, Decides-like}
 use Rattle.tags.specs.Kinds.{Behaviour}
 use Rattle.tray_core.specs.Scripts.{Script, done, send, played}
 use Rattle.tray_core.specs.Sounds.{Sounds, Silence, Reply, Clash}
@@ -12,11 +11,8 @@ use Rattle.tray_core.specs.Stock.{Tally, Fair, Once, lists, nothing, sent, next_
 use Rattle.tray_core.specs.Trays.{Model, sounds_of, after_frame}
 
 -- a serial number that is not in a list joins it at its end
-same_turned : (x y : List ℕ) → bytes_eq x y ≡ bytes_eq y x
-same_turned x y = same_from_decides _ _ (bytes_eq-Decides x y) (Decides-like _ sym sym (bytes_eq-Decides y x))
-
 lists_push : (x s : List ℕ) (xs : List (List ℕ)) → lists x xs ≡ false → bytes_eq s x ≡ false → lists x (xs ++ (s ∷ [])) ≡ false
-lists_push x s [] gone other = or_from (bytes_eq x s) false (same_turned x s ∙ other) refl
+lists_push x s [] gone other = or_from (bytes_eq x s) false (nat_list_eq_equiv.symm x s ∙ other) refl
 lists_push x s (y ∷ ys) gone other =
     let parts = or_parts (bytes_eq x y) (lists x ys) gone in or_from (bytes_eq x y) _ parts.0 (lists_push x s ys parts.1 other)
 

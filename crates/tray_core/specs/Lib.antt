@@ -8,3 +8,4 @@ pub mod Step
 pub mod Runs
 pub mod Laws
 pub mod Views
+pub mod Lending

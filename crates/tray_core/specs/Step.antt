@@ -1,4 +1,5 @@
 -- The six calls of a tray: when one is refused, what it answers, and what it leaves.
+use Rattle.std.specs.Borrow.{Bor}
 use Rattle.std.specs.Prelude.{◌≡◌, ℕ, cond, List, ◌++◌, length, drop, Some, None, Ok, Err, Option, Result, nat_le}
 use Rattle.refusals.specs.declared.Refusal.{Refusal}
 use Rattle.refusals.specs.Numbers.{number}
@@ -21,13 +22,17 @@ pub data Asks : Type 0 where
   Frame : List ℕ → Asks
   Stock : Asks
 
-abbrev pub asks_of : Call → Asks
-asks_of call.On = On
-asks_of call.Off = Off
-asks_of (call.Place n) = Place n
-asks_of (call.Lift n) = Lift n
-asks_of (call.Frame bytes) = Frame bytes.now
-asks_of call.Stock = Stock
+-- What a call of the code asks, by what its frame holds: a slice, or any other bytes.
+abbrev pub asks_by : {B : Type 0} → (B → List ℕ) → Call B → Asks
+asks_by bytes call.On = On
+asks_by bytes call.Off = Off
+asks_by bytes (call.Place n) = Place n
+asks_by bytes (call.Lift n) = Lift n
+asks_by bytes (call.Frame frame) = Frame (bytes frame)
+asks_by bytes call.Stock = Stock
+
+abbrev pub asks_of : Call (Bor (List ℕ)) → Asks
+asks_of c = asks_by (λ frame. frame.now) c
 
 -- An answer, or the number of a refusal.
 abbrev pub numbered : Result Answer Refusal → Result Answer ℕ

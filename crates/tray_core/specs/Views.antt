@@ -1,19 +1,18 @@
 -- What the values of the code stand for.
-use Rattle.std.specs.Prelude.{◌≡◌, ℕ, ◌+◌, ◌*◌, ◌≤◌, Bool, true, List, [], ◌∷◌, map, take, drop, vec_items}
+use Rattle.std.specs.Prelude.{◌≡◌, ℕ, ◌+◌, ◌*◌, ◌≤◌, Bool, true, List, [], ◌∷◌, map, take, drop, Ok, Err, Result, vec_items}
+use Rattle.typeb.specs.Messages.{bytes_of}
 use Rattle.tags.specs.Kinds.{Meaning}
-use Rattle.tray_core.specs.declared.message.Message.{Message}
-use Rattle.tray_core.specs.declared.rows.Row.{Row}
+use Rattle.tray_core.specs.declared.row.Row.{Row}
+use Rattle.tray_core.specs.declared.row.TooLong.{TooLong}
 use Rattle.tray_core.specs.declared.sounds.Sounds.{Sounds}
 use Rattle.tray_core.specs.declared.sounds.Sounds.TheVariants as heard
 use Rattle.tray_core.specs.declared.progress.Progress.{Progress}
+use Rattle.tray_core.specs.declared.tray.Rows.{Rows}
 use Rattle.tray_core.specs.declared.tray.Tray.{Tray}
 use Rattle.tray_core.specs.Rows.{Post}
 use Rattle.tray_core.specs.Stock.{Tally, joins}
-use Rattle.tray_core.specs.Trays.{Model}
+use Rattle.tray_core.specs.Trays.{Model, loaded_with}
 use Rattle.tray_core.specs.Sounds as sounds
-
-abbrev pub bytes_of : Message → List ℕ
-bytes_of m = take m.len m.bytes
 
 abbrev pub sounds_in : Sounds → sounds.Sounds
 sounds_in heard.Silence = sounds.Silence
@@ -38,8 +37,16 @@ abbrev pub row_of : {K S H : Type 0} → (K → Meaning S H) → Row K → List 
 row_of means row = posts row.present (map means (vec_items row.tags))
 
 -- A tray, by its tags' meanings, which of them are on it, and the field.
+abbrev pub rows_of : {KF SF HF KB SB HB : Type 0} → (KF → Meaning SF HF) → (KB → Meaning SB HB) → Rows KF KB → Model SF HF SB HB
+rows_of f b rows = record { field = rows.field; front = row_of f rows.front; back = row_of b rows.back }
+
+-- A tray with a row that is too long refuses every call, so it stays as it was loaded.
+abbrev pub rows_in : {KF SF HF KB SB HB : Type 0} → (KF → Meaning SF HF) → (KB → Meaning SB HB) → Result (Rows KF KB) (TooLong KF KB) → Model SF HF SB HB
+rows_in f b (Ok rows) = rows_of f b rows
+rows_in f b (Err tags) = loaded_with (map f (vec_items tags.front)) (map b (vec_items tags.back))
+
 abbrev pub model_of : {KF SF HF KB SB HB : Type 0} → (KF → Meaning SF HF) → (KB → Meaning SB HB) → Tray KF KB → Model SF HF SB HB
-model_of f b tray = record { field = tray.field; front = row_of f tray.front; back = row_of b tray.back }
+model_of f b tray = rows_in f b tray.rows
 
 -- A stock under way, with the list that it fills.
 abbrev pub tally_of : Progress → List (List ℕ) → Tally

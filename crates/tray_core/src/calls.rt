@@ -1,7 +1,13 @@
 // The calls of a tray, and their answers.
+ghost use Rattle.std.specs.Prelude.{◌≡◌};
+ghost use Rattle.typeb.specs.Messages.{bytes_of};
+ghost use Rattle.tray_core.specs.Step.{asks_by, asks_of};
 
+use typeb::message::Message;
+
+// A call, by how it holds a frame's bytes: lent as a slice, or in a message of its own.
 #[derive(Clone, Copy)]
-pub enum Call<'a> {
+pub enum Call<B> {
     // the field on and off
     On,
     Off,
@@ -9,9 +15,25 @@ pub enum Call<'a> {
     Place(usize),
     Lift(usize),
     // a frame on the air
-    Frame(&'a [u8]),
+    Frame(B),
     // which tags are there
     Stock,
+}
+
+// A call that holds its frame lends it.
+impl<'a> From<&'a Call<Message>> for Call<&'a [u8]> {
+    ghost from_gives = { λ held lent. asks_of lent ≡ asks_by bytes_of held.now };
+
+    fn from(held: &'a Call<Message>) -> Call<&'a [u8]> {
+        match held {
+            Call::On => Call::On,
+            Call::Off => Call::Off,
+            Call::Place(n) => Call::Place(*n),
+            Call::Lift(n) => Call::Lift(*n),
+            Call::Frame(message) => Call::Frame(message.as_slice()),
+            Call::Stock => Call::Stock,
+        }
+    }
 }
 
 #[derive(Clone, Copy, PartialEq, Eq, Debug)]
@@ -19,7 +41,7 @@ pub enum Answer {
     Done,
     // no tag answered
     Silent,
-    // one tag answered: the length of its reply in the buffer
+    // one tag answered: the length of its reply in the buffer, which the caller lends, as the list
     Reply(usize),
     // so many tags answered at once
     Clash(usize),

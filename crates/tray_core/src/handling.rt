@@ -11,13 +11,16 @@ use tags::kind::Kind;
 use typeb::frames::Serial;
 
 impl<F: Kind, B: Kind> Tray<F, B> {
-    fn dispatch(
+    // Takes any of the six calls, with a buffer and a list of its own. A refused call leaves tray, buffer and list as they were.
+    // No sequence of calls shows what a closed tag hides, undoes a lock or loses a count: clause `runs`.
+    pub fn handle(
         &mut self,
-        call: Call<'_>,
+        call: Call<&[u8]>,
         buffer: &mut [u8],
         list: &mut [Serial],
     ) -> Result<Answer, Refusal>
-        ensures { Stepped (step F.Kind.acts B.Kind.acts (asks_of call.entry) (model_of F.Kind.means B.Kind.means self.old) buffer.old list.old) result (model_of F.Kind.means B.Kind.means self.new) buffer.new list.new }
+        ensures result { Stepped (step F.Kind.acts B.Kind.acts (asks_of call.entry) (model_of F.Kind.means B.Kind.means self.old) buffer.old list.old) result (model_of F.Kind.means B.Kind.means self.new) buffer.new list.new }
+        ensures runs { Law F.Kind.acts B.Kind.acts }
     {
         match call {
             Call::On => self.on(),
@@ -27,19 +30,5 @@ impl<F: Kind, B: Kind> Tray<F, B> {
             Call::Frame(bytes) => self.frame(bytes, buffer),
             Call::Stock => self.stock(list),
         }
-    }
-
-    // Takes any of the six calls, with a buffer and a list of its own. A refused call leaves tray, buffer and list as they were.
-    // No sequence of calls shows what a closed tag hides, undoes a lock or loses a count: clause `runs`.
-    pub fn handle(
-        &mut self,
-        call: Call<'_>,
-        buffer: &mut [u8],
-        list: &mut [Serial],
-    ) -> Result<Answer, Refusal>
-        ensures result { Stepped (step F.Kind.acts B.Kind.acts (asks_of call.entry) (model_of F.Kind.means B.Kind.means self.old) buffer.old list.old) result (model_of F.Kind.means B.Kind.means self.new) buffer.new list.new }
-        ensures runs { Law F.Kind.acts B.Kind.acts }
-    {
-        self.dispatch(call, buffer, list)
     }
 }

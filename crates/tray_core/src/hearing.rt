@@ -5,12 +5,12 @@ ghost use Rattle.tray_core.specs.Rows.{hearing};
 ghost use Rattle.tray_core.specs.Sounds.{meet, voice};
 ghost use Rattle.tray_core.specs.Views.{sounds_in, how_many};
 
-use crate::message::Message;
 use crate::sounds::Sounds;
 use tags::kind::Kind;
+use typeb::message::Message;
 use typeb::received::Received;
 
-// Two things heard at once.
+// Two things heard at once. How many can have answered depends on how many tags were told, so no type of a sound can bound it.
 pub(crate) fn meet_sounds(a: Sounds, b: Sounds) -> Sounds
     requires { (how_many a ≤ 64) × (how_many b ≤ 64) }
     ensures result { sounds_in result ≡ meet (sounds_in a) (sounds_in b) }
@@ -35,8 +35,7 @@ pub(crate) fn tell_tag<K: Kind>(tag: &mut K, frame: &Received<'_>, heard: &mut S
 {
     let mut bytes = [0u8; 16];
     let told = tag.hear_received(frame, &mut bytes);
-    let len = told.len;
-    if len > 0 {
-        *heard = meet_sounds(*heard, Sounds::Reply(Message { bytes, len }));
+    if told.len > 0 {
+        *heard = meet_sounds(*heard, Sounds::Reply(Message::front_of(bytes, told.len)));
     }
 }

@@ -1,4 +1,5 @@
-// How far a stock has come.
+// How far a stock has come. The list is lent by the caller, so what is filled of it stands here, beside it: a struct that held
+// the list would have to say in each contract that it still holds the same one.
 #[derive(Clone, Copy)]
 pub(crate) struct Progress {
     pub(crate) frames: usize,

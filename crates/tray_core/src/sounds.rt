@@ -1,5 +1,5 @@
 // What a reader hears after a frame.
-use crate::message::Message;
+use typeb::message::Message;
 
 #[derive(Clone, Copy)]
 pub enum Sounds {

@@ -1,47 +1,38 @@
 // The tray: two rows and the field.
-ghost use Rattle.std.specs.Prelude.{◌≡◌, ℕ, true, List, map};
+ghost use Rattle.std.specs.Prelude.{◌≡◌, ℕ, false, if◌then◌else◌, List, map, Ok, MatchResult};
+ghost use Rattle.std.specs.Borrow.{sem};
+ghost use Rattle.refusals.specs.declared.Refusal.{Refusal};
+ghost use Rattle.tray_core.specs.Lending.{LendsRows};
 ghost use Rattle.tray_core.specs.Step.{Stepped, step, On, Off, Place, Lift};
-ghost use Rattle.tray_core.specs.Trays.{rows_fit, loaded_with, after_frame, sounds_of};
-ghost use Rattle.tray_core.specs.Views.{model_of, sounds_in};
+ghost use Rattle.tray_core.specs.Trays.{loaded_with, rows_fit, turned_on, turned_off, after_frame, sounds_of};
+ghost use Rattle.tray_core.specs.Views.{model_of, rows_of, sounds_in};
 
 use crate::calls::Answer;
-use crate::rows::Row;
+use crate::row::{Row, TooLong};
 use crate::sounds::Sounds;
 use refusals::Refusal;
 use tags::kind::Kind;
 use typeb::received::Received;
 
+// A front row, a back row and the field.
 #[derive(Drop)]
-pub struct Tray<F, B> {
+pub(crate) struct Rows<F, B> {
     front: Row<F>,
     back: Row<B>,
     field: bool,
 }
 
-impl<F: Kind, B: Kind> Tray<F, B> {
-    // A tray of tags just made: all of them on the tray, the field off.
-    pub fn load(front: Vec<F>, back: Vec<B>) -> Tray<F, B>
-        ensures { model_of F.Kind.means B.Kind.means result ≡ loaded_with (map F.Kind.means front.items) (map B.Kind.means back.items) }
-    {
-        Tray {
-            front: Row::new(front),
-            back: Row::new(back),
-            field: false,
-        }
-    }
+// A tray knows from its loading whether its rows fit. It has no impl Model: that could not name what the tags of a kind mean.
+#[derive(Drop)]
+pub struct Tray<F, B> {
+    rows: Result<Rows<F, B>, TooLong<F, B>>,
+}
 
-    // Rows of 32 tags or fewer.
-    pub(crate) fn fits(&self) -> bool
-        ensures { result ≡ rows_fit (model_of F.Kind.means B.Kind.means self.now) }
-    {
-        self.front.len() <= 32 && self.back.len() <= 32
-    }
-
+impl<F: Kind, B: Kind> Rows<F, B> {
     // Puts a frame on the air: it is read once, and every tag with power hears it. Answers what a reader hears.
     pub(crate) fn air(&mut self, frame: &[u8]) -> Sounds
-        requires { rows_fit (model_of F.Kind.means B.Kind.means self.old) ≡ true }
-        ensures after { model_of F.Kind.means B.Kind.means self.new ≡ after_frame F.Kind.acts B.Kind.acts frame.now (model_of F.Kind.means B.Kind.means self.old) }
-        ensures sounds { sounds_in result ≡ sounds_of F.Kind.acts B.Kind.acts frame.now (model_of F.Kind.means B.Kind.means self.old) }
+        ensures after { rows_of F.Kind.means B.Kind.means self.new ≡ after_frame F.Kind.acts B.Kind.acts frame.now (rows_of F.Kind.means B.Kind.means self.old) }
+        ensures sounds { sounds_in result ≡ sounds_of F.Kind.acts B.Kind.acts frame.now (rows_of F.Kind.means B.Kind.means self.old) }
     {
         if !self.field {
             return Sounds::Silence;
@@ -51,35 +42,79 @@ impl<F: Kind, B: Kind> Tray<F, B> {
         self.back.hear(&received, front)
     }
 
+    // The field on or off: the tags on the tray gain power, or lose it. A repeated call changes nothing.
+    fn switch(&mut self, on: bool)
+        ensures { rows_of F.Kind.means B.Kind.means self.new ≡ (if on then turned_on F.Kind.acts B.Kind.acts (rows_of F.Kind.means B.Kind.means self.old) else turned_off F.Kind.acts B.Kind.acts (rows_of F.Kind.means B.Kind.means self.old)) }
+    {
+        if self.field == on {
+            return;
+        }
+        self.front.power(on);
+        self.back.power(on);
+        self.field = on;
+    }
+
+    // A tag put on the tray or lifted off it.
+    #[tactic(auto, using(crate::proofs::Asked::fitting))]
+    fn move_tag(&mut self, n: usize, here: bool) -> Result<Answer, Refusal>
+        ensures { (b : List ℕ) (l : List (List ℕ)) → Stepped (step F.Kind.acts B.Kind.acts (if here then Place n else Lift n) (rows_of F.Kind.means B.Kind.means self.old) b l) result (rows_of F.Kind.means B.Kind.means self.new) b l }
+    {
+        if n < self.front.len() {
+            self.front.move_tag(n, here, self.field);
+        } else if n >= 32 && n - 32 < self.back.len() {
+            self.back.move_tag(n - 32, here, self.field);
+        } else {
+            return Err(Refusal::NoSuchTag);
+        }
+        Ok(Answer::Done)
+    }
+}
+
+impl<F: Kind, B: Kind> Tray<F, B> {
+    // A tray of tags just made: all of them on the tray, the field off.
+    pub fn load(front: Vec<F>, back: Vec<B>) -> Tray<F, B>
+        ensures { model_of F.Kind.means B.Kind.means result ≡ loaded_with (map F.Kind.means front.items) (map B.Kind.means back.items) }
+    {
+        if front.len() > 32 || back.len() > 32 {
+            return Tray {
+                rows: Err(TooLong { front, back }),
+            };
+        }
+        Tray {
+            rows: Ok(Rows {
+                front: Row::new(front),
+                back: Row::new(back),
+                field: false,
+            }),
+        }
+    }
+
+    // The rows, where they fit. The match stays: `as_mut` lends the error too, and no clause says what is left after it.
+    pub(crate) fn fitting(&mut self) -> Result<&mut Rows<F, B>, Refusal>
+        ensures* lends { sem 𝓛 (LendsRows F.row B.row self.entry result) }
+        ensures rows { MatchResult result (λ rows. self.old.rows ≡ Ok rows.now) (λ why. (why ≡ Refusal.RowTooLong) × (rows_fit (model_of F.Kind.means B.Kind.means self.old) ≡ false)) }
+    {
+        match &mut self.rows {
+            Ok(rows) => Ok(rows),
+            Err(_) => Err(Refusal::RowTooLong),
+        }
+    }
+
     // The field on: the tags on the tray gain power.
+    #[tactic(auto, using(crate::proofs::Asked::fitting))]
     pub fn on(&mut self) -> Result<Answer, Refusal>
         ensures { (b : List ℕ) (l : List (List ℕ)) → Stepped (step F.Kind.acts B.Kind.acts On (model_of F.Kind.means B.Kind.means self.old) b l) result (model_of F.Kind.means B.Kind.means self.new) b l }
     {
-        if !self.fits() {
-            return Err(Refusal::RowTooLong);
-        }
-        if self.field {
-            return Ok(Answer::Done);
-        }
-        self.front.power(true);
-        self.back.power(true);
-        self.field = true;
+        self.fitting()?.switch(true);
         Ok(Answer::Done)
     }
 
     // The field off: the tags on the tray lose power.
+    #[tactic(auto, using(crate::proofs::Asked::fitting))]
     pub fn off(&mut self) -> Result<Answer, Refusal>
         ensures { (b : List ℕ) (l : List (List ℕ)) → Stepped (step F.Kind.acts B.Kind.acts Off (model_of F.Kind.means B.Kind.means self.old) b l) result (model_of F.Kind.means B.Kind.means self.new) b l }
     {
-        if !self.fits() {
-            return Err(Refusal::RowTooLong);
-        }
-        if !self.field {
-            return Ok(Answer::Done);
-        }
-        self.front.power(false);
-        self.back.power(false);
-        self.field = false;
+        self.fitting()?.switch(false);
         Ok(Answer::Done)
     }
 
@@ -87,41 +122,13 @@ impl<F: Kind, B: Kind> Tray<F, B> {
     pub fn place(&mut self, n: usize) -> Result<Answer, Refusal>
         ensures { (b : List ℕ) (l : List (List ℕ)) → Stepped (step F.Kind.acts B.Kind.acts (Place n) (model_of F.Kind.means B.Kind.means self.old) b l) result (model_of F.Kind.means B.Kind.means self.new) b l }
     {
-        if !self.fits() {
-            return Err(Refusal::RowTooLong);
-        }
-        if n < self.front.len() {
-            self.front.move_tag(n, true, self.field);
-            return Ok(Answer::Done);
-        }
-        if n < 32 {
-            return Err(Refusal::NoSuchTag);
-        }
-        if n - 32 >= self.back.len() {
-            return Err(Refusal::NoSuchTag);
-        }
-        self.back.move_tag(n - 32, true, self.field);
-        Ok(Answer::Done)
+        self.fitting()?.move_tag(n, true)
     }
 
     // A tag lifted off the tray.
     pub fn lift(&mut self, n: usize) -> Result<Answer, Refusal>
         ensures { (b : List ℕ) (l : List (List ℕ)) → Stepped (step F.Kind.acts B.Kind.acts (Lift n) (model_of F.Kind.means B.Kind.means self.old) b l) result (model_of F.Kind.means B.Kind.means self.new) b l }
     {
-        if !self.fits() {
-            return Err(Refusal::RowTooLong);
-        }
-        if n < self.front.len() {
-            self.front.move_tag(n, false, self.field);
-            return Ok(Answer::Done);
-        }
-        if n < 32 {
-            return Err(Refusal::NoSuchTag);
-        }
-        if n - 32 >= self.back.len() {
-            return Err(Refusal::NoSuchTag);
-        }
-        self.back.move_tag(n - 32, false, self.field);
-        Ok(Answer::Done)
+        self.fitting()?.move_tag(n, false)
     }
 }

@@ -1,20 +1,20 @@
-use Rattle.tray_core.proofs.HiddenPart.{hiding}
-use Rattle.tray_core.proofs.Locked.{locks_front, locks_back, counts_front_lem, counts_back_lem}
-use Rattle.tray_core.proofs.Powered.{power_front, power_back}
+use Rattle.tray_core.proofs.Lawful.{lawful}
 use Rattle.tray_core.proofs.tray.Tray.handle.Goals as goal
 
-pub returns : goal.returns
-returns g c =
-    record {
-      result = c.dispatch.ensures;
-      runs =
-          record {
-            hiding = hiding _ _ g.met.F.Kind.duties g.met.B.Kind.duties;
-            locks_in_front = locks_front _;
-            locks_behind = locks_back _;
-            counts_in_front = counts_front_lem _;
-            counts_behind = counts_back_lem _;
-            power_in_front = power_front _;
-            power_behind = power_back _;
-          };
-    }
+pub returns-in-On-clause-runs : goal.returns-in-On-clause-runs
+returns-in-On-clause-runs g c = lawful g.F.Kind.acts g.B.Kind.acts g.met.F.Kind.duties g.met.B.Kind.duties
+
+pub returns-in-Off-clause-runs : goal.returns-in-Off-clause-runs
+returns-in-Off-clause-runs g c = lawful g.F.Kind.acts g.B.Kind.acts g.met.F.Kind.duties g.met.B.Kind.duties
+
+pub returns-in-Place-clause-runs : goal.returns-in-Place-clause-runs
+returns-in-Place-clause-runs g c = lawful g.F.Kind.acts g.B.Kind.acts g.met.F.Kind.duties g.met.B.Kind.duties
+
+pub returns-in-Lift-clause-runs : goal.returns-in-Lift-clause-runs
+returns-in-Lift-clause-runs g c = lawful g.F.Kind.acts g.B.Kind.acts g.met.F.Kind.duties g.met.B.Kind.duties
+
+pub returns-in-Frame-clause-runs : goal.returns-in-Frame-clause-runs
+returns-in-Frame-clause-runs g c = lawful g.F.Kind.acts g.B.Kind.acts g.met.F.Kind.duties g.met.B.Kind.duties
+
+pub returns-in-Stock-clause-runs : goal.returns-in-Stock-clause-runs
+returns-in-Stock-clause-runs g c = lawful g.F.Kind.acts g.B.Kind.acts g.met.F.Kind.duties g.met.B.Kind.duties
