@@ -1,66 +1,88 @@
 -- The steps by which digits are read.
-use Rattle.std.proofs.Common.{◌≡◌, ℕ, ◌+◌, ◌-◌, ◌*◌, ◌^◌, ◌<◌, ◌≤◌, true, leb, List, [], ◌∷◌, ◌++◌, length, get_or, take, drop, Some, None, Option, sym, refl, ap, ◌∙◌, append_assoc, pow-suc, add-one, arith, length-drop, length-take}
-use native.Mathlib.Nat.{pow-le-pow_right}
-use Rattle.std.proofs.lemmas.List.{take_rest, take_at}
-use Rattle.std.proofs.lemmas.Bool.{le-leb}
-use Rattle.typeb.specs.CheckBytes.{sealed, SealedInto}
-use Rattle.typeb.proofs.Buffers.{length_sealed}
+use Rattle.std.proofs.Common.{◌≡◌, ℕ, zero, suc, ◌+◌, ◌*◌, ◌/◌, ◌%◌, ◌<◌, ◌≤◌, Bool, true, false, cond, ◌&&◌, leb, List, [], ◌∷◌, ◌++◌, length, get_or, drop, Some, None, Ok, Err, Option, Result, sym, refl, ap, ◌∙◌, append_assoc, append-nil, arith, leb-true}
+use Rattle.std.specs.Option.{ok_or}
+use Rattle.std.specs.Simd.{first_chunks}
+use Rattle.std.proofs.lemmas.List.{at_drop_more, at_drop_all}
+use Rattle.typeb.specs.declared.message.Message.{Message}
+use Rattle.typeb.specs.Messages.{bytes_of}
 use Rattle.hex_pairs.specs.Hex.{before, byte_of, digit_value, hex_bytes}
+use Rattle.sheet.specs.declared.faults.FieldFault.{FieldFault}
+use Rattle.sheet.specs.declared.faults.FieldFault.TheVariants as fault
+use Rattle.sheet.specs.Fields.{bytes_in, result_bytes, AtMost}
 
 -- bytes that were read, before those that a rest gives
 abbrev pub followed : List ℕ → Option (List ℕ) → Option (List ℕ)
 followed bytes (Some more) = Some (bytes ++ more)
 followed bytes None = None
 
-pub followed_none : (rest : Option (List ℕ)) → followed [] rest ≡ rest
-followed_none None = refl
-followed_none (Some ys) = refl
-
 pub followed_more : (xs : List ℕ) (byte : ℕ) (rest : Option (List ℕ)) → followed (xs ++ (byte ∷ [])) rest ≡ followed xs (before (Some byte) rest)
 followed_more xs byte None = refl
 followed_more xs byte (Some ys) = ap (λ (zs : List ℕ). Some zs) (append_assoc xs (byte ∷ []) ys)
 
-pair : (xs : List ℕ) (o : Option ℕ) → 1 < length xs → o ≡ byte_of (digit_value (get_or xs 0 0)) (digit_value (get_or xs 1 0)) → hex_bytes xs ≡ before o (hex_bytes (drop 2 xs))
-pair [] byte h e = absurd (omega arith)
-pair (c ∷ []) byte h e = absurd (omega arith)
-pair (c ∷ d ∷ rest) byte h e = rw e refl
+-- the bytes of pairs of digits
+abbrev pub pairs_bytes : List (List ℕ) → Option (List ℕ)
+pairs_bytes [] = Some []
+pairs_bytes (pair ∷ pairs) = before (byte_of (digit_value (get_or pair 0 0)) (digit_value (get_or pair 1 0))) (pairs_bytes pairs)
 
--- two digits, as a slice pattern takes them
-pub pair_read : (xs : List ℕ) (o : Option ℕ) → 1 < length xs → o ≡ byte_of (digit_value (get_or xs 0 0)) (digit_value (get_or xs 1 0)) → hex_bytes xs ≡ before o (hex_bytes (take (length xs - 2) (drop 2 xs)))
-pair_read xs o h e = pair xs o h e ∙ ap (λ (ys : List ℕ). before o (hex_bytes ys)) (sym (take_rest xs 2))
+pub by_pairs : (n : ℕ) (xs : List ℕ) → length xs ≡ 2 * n → hex_bytes xs ≡ pairs_bytes (first_chunks 2 n xs)
+by_pairs zero [] h = refl
+by_pairs zero (c ∷ xs) h = absurd (omega arith)
+by_pairs (suc n) [] h = absurd (omega arith)
+by_pairs (suc n) (c ∷ []) h = absurd (omega arith)
+by_pairs (suc n) (c ∷ d ∷ xs) h = ap (before (byte_of (digit_value c) (digit_value d))) (by_pairs n xs (omega arith))
 
-pub one_digit : (xs : List ℕ) → 0 < length xs → length xs < 2 → hex_bytes xs ≡ None
-one_digit [] h l = absurd (omega arith)
-one_digit (c ∷ []) h l = refl
-one_digit (c ∷ d ∷ xs) h l = absurd (omega arith)
+pub of_pairs : (xs : List ℕ) (pairs : List (List ℕ)) → pairs ≡ first_chunks 2 (length xs / 2) xs → length xs % 2 ≡ 0 → pairs_bytes pairs ≡ hex_bytes xs
+of_pairs xs pairs e even = ap pairs_bytes e ∙ sym (by_pairs (length xs / 2) xs (omega arith))
 
-pub no_digit : (xs : List ℕ) → length xs ≡ 0 → hex_bytes xs ≡ Some []
-no_digit [] h = refl
-no_digit (c ∷ xs) h = absurd (omega arith)
+-- all pairs are read, or one of them gives no byte
+pub pairs_read : (pairs : List (List ℕ)) (i : ℕ) (bytes : List ℕ) → length pairs ≤ i → followed bytes (pairs_bytes (drop i pairs)) ≡ pairs_bytes pairs → Some bytes ≡ pairs_bytes pairs
+pairs_read pairs i bytes h e = ap (λ (x : List ℕ). Some x) (sym (append-nil bytes)) ∙ ap (followed bytes) (sym (at_drop_all pairs_bytes pairs i h)) ∙ e
 
--- a value of i digits takes one more
-pub power_more : (i : ℕ) → 10 ^ (i + 1) ≡ 10 ^ i * 10
-power_more i = ap (λ (k : ℕ). 10 ^ k) (add-one i) ∙ pow-suc 10 i
+pub pair_missing : (pairs : List (List ℕ)) (i : ℕ) (d bytes : List ℕ) → i < length pairs → None ≡ byte_of (digit_value (get_or (get_or pairs i d) 0 0)) (digit_value (get_or (get_or pairs i d) 1 0))
+    → followed bytes (pairs_bytes (drop i pairs)) ≡ pairs_bytes pairs → None ≡ pairs_bytes pairs
+pair_missing pairs i d bytes h none e = ap (followed bytes) (ap (λ (o : Option ℕ). before o (pairs_bytes (drop (i + 1) pairs))) none ∙ sym (at_drop_more pairs_bytes pairs i d h)) ∙ e
 
-pub power_small : (i : ℕ) → i < 3 → 10 ^ i ≤ 100
-power_small i h = pow-le-pow_right {n = 10} (omega arith) {i = i} {j = 2} (omega arith)
+before_none : (o : Option ℕ) → before o None ≡ None
+before_none None = refl
+before_none (Some byte) = refl
 
-pub rest_length : (xs : List ℕ) → 2 ≤ length xs → length (take (length xs - 2) (drop 2 xs)) ≡ length xs - 2
-rest_length xs h = simp (take_rest xs 2, length-drop) refl
+-- a digit is left over
+pub odd_digits : (xs : List ℕ) → length xs % 2 ≡ 1 → hex_bytes xs ≡ None
+odd_digits [] h = absurd (omega arith)
+odd_digits (c ∷ []) h = refl
+odd_digits (c ∷ d ∷ xs) h = ap (before (byte_of (digit_value c) (digit_value d))) (odd_digits xs (omega arith)) ∙ before_none (byte_of (digit_value c) (digit_value d))
 
--- a body of up to 14 bytes in a buffer of 16
-pub record InSixteen (body given : List ℕ) (o : Option ℕ) : Type 0 where
-  pub size : o ≡ Some (length body + 2)
-  pub short : length body + 2 ≤ 16
-  pub bytes : take (length body + 2) given ≡ sealed body
+-- two digits for each byte
+longer : (o : Option ℕ) (r : Option (List ℕ)) (digits : ℕ) (bytes : List ℕ) → ((some : List ℕ) → r ≡ Some some → 2 * length some ≡ digits) → before o r ≡ Some bytes → 2 * length bytes ≡ digits + 2
+longer (Some byte) (Some some) digits bytes h e = let whole : byte ∷ some ≡ bytes = cc in omega (arith, h some refl, ap length whole)
+longer (Some byte) None digits bytes h e = cc
+longer None r digits bytes h e = cc
 
-pub in_sixteen : (n : ℕ) (all body lent given : List ℕ) (o : Option ℕ) → body ≡ take n all → n ≤ 14 → length lent ≡ 16 → SealedInto body lent given o → InSixteen body given o
-in_sixteen n all body lent given o e h room into =
-    let part : length (take n all) ≤ 14 = simp length-take (omega arith) in
-    let small : length body ≤ 14 = omega (arith, ap length e) in
-    let fits : leb (length body + 2) (length lent) ≡ true = le-leb _ _ (omega arith) in
-    record {
-      size = into.size ∙ simp fits refl;
-      short = omega arith;
-      bytes = ap (take (length body + 2)) (into.buffer ∙ simp fits refl) ∙ take_at (sealed body) (drop (length body + 2) lent) (length body + 2) (length_sealed body);
-    }
+pub length_hex : (digits bytes : List ℕ) → hex_bytes digits ≡ Some bytes → 2 * length bytes ≡ length digits
+length_hex [] bytes e = let none : ◌≡◌ {A = List ℕ} [] bytes = cc in omega (arith, ap length none)
+length_hex (c ∷ []) bytes e = cc
+length_hex (c ∷ d ∷ rest) bytes e = omega (arith, longer (byte_of (digit_value c) (digit_value d)) (hex_bytes rest) (length rest) bytes (length_hex rest) e)
+
+-- how many bytes a field gives
+pub record Within (least most n : ℕ) : Type 0 where
+  pub low : least ≤ n
+  pub high : n ≤ most
+
+within_at : (b b' : Bool) (least most : ℕ) (digits bytes : List ℕ) (o : Option (List ℕ)) → leb (2 * least) (length digits) ≡ b → leb (length digits) (2 * most) ≡ b' → (o ≡ Some bytes → 2 * length bytes ≡ length digits)
+    → Ok bytes ≡ cond (b && b') (ok_or o fault.Bytes) (Err fault.Bytes) → Within least most (length bytes)
+within_at true true least most digits bytes (Some some) low high long e =
+    let same : some ≡ bytes = cc in
+    let size = long (ap (λ (x : List ℕ). Some x) same) in
+    let enough : 2 * least ≤ length digits = leb-true _ _ low in
+    let fits : length digits ≤ 2 * most = leb-true _ _ high in
+    record { low = omega arith; high = omega arith }
+within_at true true least most digits bytes None low high long e = cc
+within_at true false least most digits bytes o low high long e = cc
+within_at false b' least most digits bytes o low high long e = cc
+
+pub bytes_within : (least most : ℕ) (field bytes : List ℕ) → Ok bytes ≡ bytes_in least most field → Within least most (length bytes)
+bytes_within least most field bytes e = within_at _ _ least most field bytes (hex_bytes field) refl refl (length_hex field bytes) e
+
+pub at_most : (least most : ℕ) (field : List ℕ) (r : Result Message FieldFault) → result_bytes r ≡ bytes_in least most field → AtMost most r
+at_most least most field (Ok m) e = (bytes_within least most field (bytes_of m) e).high
+at_most least most field (Err why) e = tt

@@ -1,5 +1,4 @@
 pub mod Digits
-pub mod Printed
 pub mod Drafted
 pub mod Ran
 pub mod ReadBack

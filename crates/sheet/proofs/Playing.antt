@@ -1,5 +1,5 @@
 -- Every run plays its calls.
-use Rattle.std.proofs.Common.{◌≡◌, ℕ, ◌+◌, ◌-◌, Bool, true, false, cond, eqb, ltb, leb, List, [], ◌∷◌, ◌++◌, length, Some, None, Ok, Err, Result, sym, refl, ap, ◌∙◌, subst, append_assoc, arith}
+use Rattle.std.proofs.Common.{◌≡◌, ℕ, ◌+◌, ◌-◌, Bool, true, false, cond, eqb, ltb, leb, List, [], ◌∷◌, ◌++◌, length, Ok, Err, Result, sym, refl, ap, ◌∙◌, subst, append_assoc, arith}
 use Rattle.std.proofs.lemmas.Bool.{cond-false, ne_eqb}
 use Rattle.tags.specs.Gauge.{GaugeMeaning}
 use Rattle.tags.specs.Pump.{PumpMeaning}
@@ -11,20 +11,14 @@ use Rattle.sheet.specs.Drafts.{Draft, blank_pump, blank_gauge, front_paged, back
 use Rattle.parts.specs.Parts.{parted}
 use Rattle.sheet.specs.Lines.{Says, Tag, Page, Calls, line_says}
 use Rattle.sheet.specs.Printing.{printed_answer}
-use Rattle.sheet.specs.Sheets.{SheetTray, Stage, Naming, Calling, Came, Went, Stopped, Run, Refused, stopped_at, ended, before, go_on, says_do, answered, tray_in, with_front, with_back, lines_run}
+use Rattle.sheet.specs.Sheets.{SheetTray, Stage, Naming, Calling, Came, Went, Stopped, Run, stopped_at, ended, before, go_on, says_do, answered, tray_in, with_front, with_back, lines_run}
 use Rattle.sheet.specs.Played.{CallLine, call_in, calls_in, Names, NewTag, SetPage, name_in, names_in, does_name, Leads, step_of, Played, Plays, SheetPlays}
-
-some_none : (r : Refused) → Some r ≡ None → ⊥
-some_none r e = let z : ◌≡◌ {A = ℕ} 0 1 = cc in omega arith
-
-stopped_went : (why : ℕ) (text : List ℕ) (next : Stage) → Stopped why ≡ Went text next → ⊥
-stopped_went why text next e = let z : ◌≡◌ {A = ℕ} 0 1 = cc in omega arith
 
 -- no tag is named once calls are made
 calling_leads : (tray : SheetTray) (lines : List Names) (last : Stage) → Leads (Calling tray) lines last → Calling tray ≡ last
 calling_leads tray [] last e = e
-calling_leads tray (NewTag kind draw ∷ lines) last l = absurd (stopped_went 17 [] l.0 l.1.0)
-calling_leads tray (SetPage tag page bytes ∷ lines) last l = absurd (stopped_went 17 [] l.0 l.1.0)
+calling_leads tray (NewTag kind draw ∷ lines) last l = let e : Stopped 17 ≡ Went [] l.0 = l.1.0 in cc
+calling_leads tray (SetPage tag page bytes ∷ lines) last l = let e : Stopped 17 ≡ Went [] l.0 = l.1.0 in cc
 
 stopped : (stage : Stage) (names : List Names) (calls : List CallLine) (line why : ℕ) → Plays stage names calls (stopped_at line why)
 stopped stage names calls line why =
@@ -40,7 +34,7 @@ stopped stage names calls line why =
       text = [];
       played = refl;
       prints = refl;
-      whole = λ e. absurd (some_none _ e);
+      whole = λ e. cc;
     }
 
 done : (stage : Stage) → Plays stage [] [] ended
@@ -122,21 +116,15 @@ module _ (number : ℕ) (names : List Names) (calls : List CallLine) (rest : Sta
 
   came_plays : (line : Names) (stage : Stage) (r : Came) → does_name line stage ≡ r → ((printed : List ℕ) (after : Stage) → r ≡ Went printed after → printed ≡ []) → Plays stage (line ∷ names) calls (go_on number r rest)
   came_plays line stage (Went [] after) e none = quiet line stage after names calls (rest after) e (plays after)
-  came_plays line stage (Went (c ∷ text) after) e none = absurd (let z : ◌≡◌ {A = List ℕ} (c ∷ text) [] = none (c ∷ text) after refl in omega (arith, ap length z))
+  came_plays line stage (Went (c ∷ text) after) e none = let z : ◌≡◌ {A = List ℕ} (c ∷ text) [] = none (c ∷ text) after refl in cc
   came_plays line stage (Stopped why) e none = stopped stage (line ∷ names) calls number why
-
-  front_quiet : (r : Result (List (Draft PumpMeaning)) ℕ) (back : List (Draft GaugeMeaning)) (printed : List ℕ) (after : Stage) → with_front r back ≡ Went printed after → printed ≡ []
-  front_quiet (Ok front) back printed after e = cc
-  front_quiet (Err why) back printed after e = absurd (stopped_went why printed after e)
-
-  back_quiet : (front : List (Draft PumpMeaning)) (r : Result (List (Draft GaugeMeaning)) ℕ) (printed : List ℕ) (after : Stage) → with_back front r ≡ Went printed after → printed ≡ []
-  back_quiet front (Ok back) printed after e = cc
-  back_quiet front (Err why) printed after e = absurd (stopped_went why printed after e)
 
   page_quiet : (b : Bool) (front : List (Draft PumpMeaning)) (back : List (Draft GaugeMeaning)) (r : Result (List (Draft PumpMeaning)) ℕ) (s : Result (List (Draft GaugeMeaning)) ℕ) (printed : List ℕ) (after : Stage)
       → cond b (with_front r back) (with_back front s) ≡ Went printed after → printed ≡ []
-  page_quiet true front back r s printed after e = front_quiet r back printed after e
-  page_quiet false front back r s printed after e = back_quiet front s printed after e
+  page_quiet true front back (Ok row) s printed after e = cc
+  page_quiet true front back (Err why) s printed after e = cc
+  page_quiet false front back r (Ok row) printed after e = cc
+  page_quiet false front back r (Err why) printed after e = cc
 
   says_plays : (said : Result Says LineFault) (stage : Stage) → Plays stage (name_in said names) (call_in number said calls) (go_on number (says_do number said stage) rest)
   says_plays (Err fault) stage = stopped stage names calls number _
@@ -148,9 +136,10 @@ module _ (number : ℕ) (names : List Names) (calls : List CallLine) (rest : Sta
       came_plays (SetPage tag page bytes) (Naming front back) _ refl (page_quiet (ltb tag 32) front back (front_paged tag page bytes front) (back_paged (tag - 32) page bytes back))
   says_plays (Ok (Calls call)) stage = call_plays call stage _ _ refl refl
 
-long_plays : (b : Bool) (stage : Stage) (names : List Names) (calls : List CallLine) (run : Run) (number : ℕ) → Plays stage names calls run → Plays stage names calls (cond b run (stopped_at number 13))
-long_plays true stage names calls run number p = p
-long_plays false stage names calls run number p = stopped stage names calls number 13
+-- a test that stops the run where it fails
+asked_plays : (b : Bool) (stage : Stage) (names : List Names) (calls : List CallLine) (run : Run) (line why : ℕ) → Plays stage names calls run → Plays stage names calls (cond b run (stopped_at line why))
+asked_plays true stage names calls run line why p = p
+asked_plays false stage names calls run line why p = stopped stage names calls line why
 
 last_plays : (number : ℕ) (stage : Stage) (last : List ℕ) → Plays stage (names_in (last ∷ [])) (calls_in number (last ∷ [])) (cond (eqb (length last) 0) ended (stopped_at number 13))
 last_plays number stage [] = done stage
@@ -163,12 +152,8 @@ lines_play : (number : ℕ) (stage : Stage) (lines : List (List ℕ)) → Plays 
 lines_play number stage [] = done stage
 lines_play number stage (last ∷ []) = last_plays number stage last
 lines_play number stage (line ∷ next ∷ more) =
-    long_plays (leb (length line) 79) stage (names_in (line ∷ next ∷ more)) (calls_in number (line ∷ next ∷ more)) _ number
+    asked_plays (leb (length line) 79) stage (names_in (line ∷ next ∷ more)) (calls_in number (line ∷ next ∷ more)) _ number 13
     (says_plays number (names_in (next ∷ more)) (calls_in (number + 1) (next ∷ more)) (λ after. lines_run (number + 1) after (next ∷ more)) (λ after. lines_play (number + 1) after (next ∷ more)) (line_says line) stage)
 
-sheet_at : (b : Bool) (stage : Stage) (names : List Names) (calls : List CallLine) (run : Run) → Plays stage names calls run → Plays stage names calls (cond b run (stopped_at 0 12))
-sheet_at true stage names calls run p = p
-sheet_at false stage names calls run p = stopped stage names calls 0 12
-
 pub sheet_plays : (sheet : List ℕ) → SheetPlays sheet
-sheet_plays sheet = sheet_at (leb (length sheet) 65536) (Naming [] []) (names_in (parted 10 sheet)) (calls_in 1 (parted 10 sheet)) _ (lines_play 1 (Naming [] []) (parted 10 sheet))
+sheet_plays sheet = asked_plays (leb (length sheet) 65536) (Naming [] []) (names_in (parted 10 sheet)) (calls_in 1 (parted 10 sheet)) _ 0 12 (lines_play 1 (Naming [] []) (parted 10 sheet))

@@ -1,12 +1,13 @@
 -- What is printed is read back.
-use Rattle.std.proofs.Common.{◌≡◌, ℕ, ◌+◌, ◌-◌, ◌*◌, ◌/◌, ◌%◌, ◌<◌, ◌≤◌, Bool, true, false, eqb, leb, List, [], ◌∷◌, ◌++◌, length, Some, Ok, decimal, refl, ap, ◌∙◌, arith, leb-false, leb-true}
+use Rattle.std.proofs.Common.{◌≡◌, ℕ, ◌+◌, ◌-◌, ◌*◌, ◌/◌, ◌%◌, ◌<◌, ◌≤◌, Bool, true, false, eqb, leb, List, [], ◌∷◌, ◌++◌, length, Some, Ok, decimal, Option, refl, ap, ◌∙◌, arith, leb-false, leb-true}
+use Rattle.std.specs.Option.{ok_or}
 use Rattle.std.proofs.lemmas.Fmt.{decimal_digit, decimal_step}
 use Rattle.std.proofs.lemmas.Bool.{le-leb}
 use Rattle.std.proofs.lemmas.Bool.Decides.{nat_tests}
 use Rattle.hex_pairs.specs.Hex.{Bytes, hex_digit, hex_text, digit_value, byte_of}
 use Rattle.hex_pairs.proofs.ReadBack.{reads_back}
 use Rattle.sheet.specs.declared.faults.FieldFault.TheVariants as fault
-use Rattle.sheet.specs.Fields.{number_of, digits_after, bytes_in, draw_of, or_fault, word_from}
+use Rattle.sheet.specs.Fields.{number_of, digits_after, bytes_in, draw_of, word_from}
 
 -- digits one by one
 digit_next : (v d : ℕ) (rest : List ℕ) → d < 10 → digits_after v ((48 + d) ∷ rest) ≡ digits_after (10 * v + d) rest
@@ -19,7 +20,7 @@ digit_next v d rest h =
 one_digit : (n : ℕ) → n < 10 → number_of ((48 + n) ∷ []) ≡ Ok n
 one_digit n h =
     let read : digits_after 0 ((48 + n) ∷ []) ≡ Some n = digit_next 0 n [] h ∙ ap (λ (k : ℕ). Some k) (omega arith) in
-    ap (or_fault fault.Number) read
+    ap (λ (o : Option ℕ). ok_or o fault.Number) read
 
 two_digits : (a b : ℕ) → 0 < a → a < 10 → b < 10 → number_of ((48 + a) ∷ (48 + b) ∷ []) ≡ Ok (10 * a + b)
 two_digits a b some h k =
@@ -84,4 +85,4 @@ draw_reads_back draw h =
     let high = pair_reads (draw / 256) (omega arith) in
     let low = pair_reads (draw % 256) (omega arith) in
     let whole : 256 * (draw / 256) + draw % 256 ≡ draw = omega arith in
-    ap (or_fault fault.Draw) ((λ i. word_from (high i) (low i)) ∙ ap (λ (k : ℕ). Some k) whole)
+    ap (λ (o : Option ℕ). ok_or o fault.Draw) ((λ i. word_from (high i) (low i)) ∙ ap (λ (k : ℕ). Some k) whole)

@@ -1,14 +1,11 @@
 -- The fields of a line: numbers, bytes and draws.
-use Rattle.std.specs.Prelude.{◌≡◌, ℕ, ◌+◌, ◌-◌, ◌*◌, ◌≤◌, Bool, cond, not, ◌&&◌, ◌||◌, List, [], ◌∷◌, length, take, Some, None, Ok, Err, Option, Result, ◌==◌, nat_le, slice_index}
+use Rattle.std.specs.Prelude.{ℕ, ◌+◌, ◌-◌, ◌*◌, ◌≤◌, Bool, cond, not, ◌&&◌, ◌||◌, List, [], ◌∷◌, length, Some, None, Ok, Err, Option, Result, ◌==◌, nat_le, slice_index}
+use Rattle.std.specs.Option.{ok_or}
 use Rattle.hex_pairs.specs.Hex.{digit_value, byte_of, hex_bytes}
-use Rattle.sheet.specs.declared.bytes.Bytes.{Bytes}
+use Rattle.typeb.specs.declared.message.Message.{Message}
+use Rattle.typeb.specs.Messages.{bytes_of}
 use Rattle.sheet.specs.declared.faults.FieldFault.{FieldFault}
 use Rattle.sheet.specs.declared.faults.FieldFault.TheVariants as fault
-
--- A value, or a fault where there is none.
-abbrev pub or_fault : {A : Type 0} → FieldFault → Option A → Result A FieldFault
-or_fault why (Some value) = Ok value
-or_fault why None = Err why
 
 -- The value of decimal digits behind a value so far; none where a character is no digit.
 abbrev pub digits_after : ℕ → List ℕ → Option ℕ
@@ -21,12 +18,12 @@ plain field = (nat_le 1 (length field) && nat_le (length field) 3) && (length fi
 
 -- A plain number.
 abbrev pub number_of : List ℕ → Result ℕ FieldFault
-number_of field = cond (plain field) (or_fault fault.Number (digits_after 0 field)) (Err fault.Number)
+number_of field = cond (plain field) (ok_or (digits_after 0 field) fault.Number) (Err fault.Number)
 
 -- From `least` to `most` bytes, each as two lower-case hex digits.
 abbrev pub bytes_in : ℕ → ℕ → List ℕ → Result (List ℕ) FieldFault
 bytes_in least most field =
-    cond (nat_le (2 * least) (length field) && nat_le (length field) (2 * most)) (or_fault fault.Bytes (hex_bytes field)) (Err fault.Bytes)
+    cond (nat_le (2 * least) (length field) && nat_le (length field) (2 * most)) (ok_or (hex_bytes field) fault.Bytes) (Err fault.Bytes)
 
 -- The byte of the two digits at a place.
 abbrev pub pair_at : ℕ → List ℕ → Option ℕ
@@ -40,30 +37,18 @@ word_from None low = None
 
 -- A draw: four lower-case hex digits.
 abbrev pub draw_of : List ℕ → Result ℕ FieldFault
-draw_of field = cond (length field == 4) (or_fault fault.Draw (word_from (pair_at 0 field) (pair_at 2 field))) (Err fault.Draw)
+draw_of field = cond (length field == 4) (ok_or (word_from (pair_at 0 field) (pair_at 2 field)) fault.Draw) (Err fault.Draw)
 
 -- The bytes that a value of the code holds.
-abbrev pub in_bytes : Bytes → List ℕ
-in_bytes b = take b.len b.all
-
-abbrev pub option_bytes : Option Bytes → Option (List ℕ)
-option_bytes (Some b) = Some (in_bytes b)
+abbrev pub option_bytes : Option Message → Option (List ℕ)
+option_bytes (Some m) = Some (bytes_of m)
 option_bytes None = None
 
-abbrev pub result_bytes : Result Bytes FieldFault → Result (List ℕ) FieldFault
-result_bytes (Ok b) = Ok (in_bytes b)
+abbrev pub result_bytes : Result Message FieldFault → Result (List ℕ) FieldFault
+result_bytes (Ok m) = Ok (bytes_of m)
 result_bytes (Err why) = Err why
 
--- A field of so many digits gives half as many bytes.
-abbrev pub Sized : ℕ → Result Bytes FieldFault → Type 0
-Sized digits (Ok b) = 2 * b.len ≡ digits
-Sized digits (Err why) = Unit {0}
-
--- It gives so many bytes or fewer.
-abbrev pub AtMost : ℕ → Result Bytes FieldFault → Type 0
-AtMost most (Ok b) = b.len ≤ most
+-- A field gives so many bytes or fewer.
+abbrev pub AtMost : ℕ → Result Message FieldFault → Type 0
+AtMost most (Ok m) = length (bytes_of m) ≤ most
 AtMost most (Err why) = Unit {0}
-
-abbrev pub SizedOption : ℕ → Option Bytes → Type 0
-SizedOption digits (Some b) = 2 * b.len ≡ digits
-SizedOption digits None = Unit {0}

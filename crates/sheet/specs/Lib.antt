@@ -7,3 +7,4 @@ pub mod Sheets
 pub mod Views
 pub mod Laws
 pub mod Played
+pub mod Cuts

@@ -3,6 +3,9 @@ use Rattle.std.specs.Prelude.{ℕ, cond, List, length, Some, None, Ok, Err, code
 use Rattle.std.specs.Str.{bytes_eq}
 use Rattle.parts.specs.Parts.{parted, field_at}
 use Rattle.typeb.specs.CheckBytes.{sealed}
+use Rattle.typeb.specs.Messages.{bytes_of}
+use Rattle.typeb.specs.declared.message.Message.{Message}
+use Rattle.tray_core.specs.declared.calls.Call.{Call}
 use Rattle.tray_core.specs.Step as calls
 use Rattle.sheet.specs.declared.faults.FieldFault.{FieldFault}
 use Rattle.sheet.specs.declared.faults.FieldFault.TheVariants as field
@@ -12,11 +15,9 @@ use Rattle.sheet.specs.declared.words.TagKind.{TagKind}
 use Rattle.sheet.specs.declared.words.TagKind.TheVariants.{Pump, Gauge}
 use Rattle.sheet.specs.declared.words.Word.{Word}
 use Rattle.sheet.specs.declared.words.Word.TheVariants as word
-use Rattle.sheet.specs.declared.orders.Order.{Order}
-use Rattle.sheet.specs.declared.orders.Order.TheVariants as order
 use Rattle.sheet.specs.declared.orders.Line.{Line}
 use Rattle.sheet.specs.declared.orders.Line.TheVariants as line
-use Rattle.sheet.specs.Fields.{number_of, bytes_in, draw_of, in_bytes}
+use Rattle.sheet.specs.Fields.{number_of, bytes_in, draw_of}
 
 -- The words.
 abbrev pub word_of : List ℕ → Option Word
@@ -81,13 +82,8 @@ abbrev pub line_says : List ℕ → Result Says LineFault
 line_says text = fields_say (word_of (field_at 0 (parted 44 text))) (parted 44 text)
 
 -- What the values of the code say.
-abbrev pub order_asks : Order → calls.Asks
-order_asks order.On = calls.On
-order_asks order.Off = calls.Off
-order_asks (order.Place n) = calls.Place n
-order_asks (order.Lift n) = calls.Lift n
-order_asks order.Stock = calls.Stock
-order_asks (order.Frame bytes) = calls.Frame (in_bytes bytes)
+abbrev pub order_asks : Call Message → calls.Asks
+order_asks order = calls.asks_by bytes_of order
 
 abbrev pub said_by : Line → Says
 said_by (line.Tag kind draw) = Tag kind draw

@@ -15,7 +15,7 @@ use Rattle.sheet.specs.declared.stops.Stop.{Stop}
 use Rattle.sheet.specs.declared.stops.Stop.TheVariants as stop
 use Rattle.sheet.specs.Drafts.{pump_draft, gauge_draft}
 use Rattle.sheet.specs.Faults.{fault_number}
-use Rattle.sheet.specs.Sheets.{Stage, Naming, Calling, Came, Went, Stopped, Refused, Run, before, stopped_at}
+use Rattle.sheet.specs.Sheets.{SheetTray, Stage, Naming, Calling, Came, Went, Stopped, Refused, Run, before, stopped_at}
 
 abbrev pub named_stage : Named → Stage
 named_stage n = Naming (map pump_draft (vec_items n.front)) (map gauge_draft (vec_items n.back))
@@ -29,6 +29,11 @@ abbrev pub CameBy : Result Done Stop → Came → Type 0
 CameBy (Ok done) came = came ≡ Went (string_bytes done.text) (stage_of done.stage)
 CameBy (Err (stop.Fault f)) came = came ≡ Stopped (fault_number f)
 CameBy (Err (stop.Memory e)) came = Unit {0}
+
+-- The tags that are named, of a stage that is not yet past them.
+abbrev pub NamedBy : Result Named LineFault → Stage → Type 0
+NamedBy (Ok named) stage = stage ≡ named_stage named
+NamedBy (Err f) stage = (tray : SheetTray) × (stage ≡ Calling tray) × (fault_number f ≡ 17)
 
 -- The same of a page that is set among the tags that are named.
 abbrev pub PagedBy : Result (Unit {0}) LineFault → Named → Came → Type 0

@@ -1,9 +1,4 @@
-// Up to 16 bytes, as a field gives them.
-ghost use Rattle.std.specs.Prelude.{◌≤◌};
+// Up to 16 bytes, as a field gives them: a message, under the name by which callers know it.
+use typeb::message::Message;
 
-#[derive(Clone, Copy)]
-pub struct Bytes {
-    pub(crate) all: [u8; 16],
-    pub(crate) len: usize,
-    ghost ok: { len ≤ 16 },
-}
+pub type Bytes = Message;

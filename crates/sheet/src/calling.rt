@@ -2,17 +2,17 @@
 ghost use Rattle.std.specs.Prelude.{◌≡◌, IfOk};
 ghost use Rattle.sheet.specs.Lines.{order_asks};
 ghost use Rattle.sheet.specs.Sheets.{named, paged, called, line_does, tray_in, called_on, empty_buffer, empty_list};
-ghost use Rattle.sheet.specs.Views.{stage_of, CameBy};
+ghost use Rattle.sheet.specs.Views.{stage_of, CameBy, NamedBy};
 ghost use Rattle.tags.specs.Gauge.{gauge_means, gauge_acts};
 ghost use Rattle.tags.specs.Pump.{pump_means, pump_acts};
-ghost use Rattle.tray_core.specs.Step.{asks_of, step};
+ghost use Rattle.tray_core.specs.Step.{step};
 ghost use Rattle.tray_core.specs.Views.{model_of};
 
 use crate::faults::LineFault;
 use crate::lines::read_line;
 use crate::orders::{Line, Order};
 use crate::printing::Answered;
-use crate::stages::{Done, Stage};
+use crate::stages::{Done, Named, Stage};
 use crate::stops::Stop;
 use crate::words::TagKind;
 use std::alloc::{AllocError, Global};
@@ -21,51 +21,42 @@ use tags::pump::PumpTag;
 use tray_core::calls::Call;
 use tray_core::tray::Tray;
 
-// The call of the tray that an order stands for.
-fn call_of(order: &Order) -> Call<'_>
-    ensures { asks_of result ≡ order_asks order.now }
-{
-    match order {
-        Order::On => Call::On,
-        Order::Off => Call::Off,
-        Order::Place(n) => Call::Place(*n),
-        Order::Lift(n) => Call::Lift(*n),
-        Order::Stock => Call::Stock,
-        Order::Frame(bytes) => Call::Frame(bytes.as_slice()),
-    }
-}
-
 // A call of the tray, and the lines that it prints.
 fn call_tray(
     heap: Global,
-    tray: Tray<PumpTag, GaugeTag>,
+    mut tray: Tray<PumpTag, GaugeTag>,
     number: usize,
     order: Order,
 ) -> Result<Done, Stop>
     ensures { CameBy result (called_on number (step pump_acts gauge_acts (order_asks order) (model_of pump_means gauge_means tray) empty_buffer empty_list)) }
 {
-    let mut tray = tray;
     let mut buffer = [0u8; 16];
     let mut list = [[0u8; 4]; 128];
-    match tray.handle(call_of(&order), &mut buffer, &mut list) {
-        Ok(answer) => {
-            let answered = Answered {
-                number,
-                answer,
-                buffer: &buffer,
-                list: &list,
-            };
-            let text = format!(in heap; "{number},{answered}\n")?;
-            Ok(Done {
-                stage: Stage::Calling(tray),
-                text,
-            })
-        }
-        Err(why) => Err(Stop::Fault(LineFault::Refused(why))),
-    }
+    let answer = tray.handle(Call::from(&order), &mut buffer, &mut list)?;
+    let answered = Answered {
+        number,
+        answer,
+        buffer: &buffer,
+        list: &list,
+    };
+    let text = format!(in heap; "{number},{answered}\n")?;
+    Ok(Done {
+        stage: Stage::Calling(tray),
+        text,
+    })
 }
 
 impl Stage {
+    // The tags that are named, before the first call.
+    fn into_named(self) -> Result<Named, LineFault>
+        ensures { NamedBy result (stage_of self) }
+    {
+        match self {
+            Stage::Naming(named) => Ok(named),
+            Stage::Calling(_) => Err(LineFault::TagAfterCall),
+        }
+    }
+
     // The tray, loaded at the first call.
     fn into_tray(self, heap: Global) -> Result<Tray<PumpTag, GaugeTag>, AllocError>
         ensures { IfOk result (λ tray. model_of pump_means gauge_means tray ≡ tray_in (stage_of self)) }
@@ -79,31 +70,17 @@ impl Stage {
     fn name_tag(self, heap: Global, kind: TagKind, draw: u16) -> Result<Done, Stop>
         ensures { CameBy result (named kind draw (stage_of self)) }
     {
-        match self {
-            Stage::Naming(mut named) => {
-                named.add(kind, draw)?;
-                Ok(Done {
-                    stage: Stage::Naming(named),
-                    text: String::new(heap),
-                })
-            }
-            Stage::Calling(_) => Err(Stop::Fault(LineFault::TagAfterCall)),
-        }
+        let mut named = self.into_named()?;
+        named.add(kind, draw)?;
+        Ok(named.into_done(heap))
     }
 
     fn set_page(self, heap: Global, tag: usize, page: usize, bytes: [u8; 8]) -> Result<Done, Stop>
         ensures { CameBy result (paged tag page bytes (stage_of self)) }
     {
-        match self {
-            Stage::Naming(mut named) => {
-                named.set_page(tag, page, bytes)?;
-                Ok(Done {
-                    stage: Stage::Naming(named),
-                    text: String::new(heap),
-                })
-            }
-            Stage::Calling(_) => Err(Stop::Fault(LineFault::TagAfterCall)),
-        }
+        let mut named = self.into_named()?;
+        named.set_page(tag, page, bytes)?;
+        Ok(named.into_done(heap))
     }
 
     fn make_call(self, heap: Global, number: usize, order: Order) -> Result<Done, Stop>

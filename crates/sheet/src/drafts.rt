@@ -1,17 +1,15 @@
-// Tags as a sheet names them: the image so far, the draw, and the tag made of both.
+// Tags as a sheet names them.
 use tags::gauge::GaugeTag;
 use tags::pump::PumpTag;
 
+// The image of a tag so far, its draw, and the tag made of both.
 #[derive(Clone, Copy)]
-pub struct PumpDraft {
-    pub(crate) image: [u8; 256],
+pub struct Draft<T, const N: usize> {
+    pub(crate) image: [u8; N],
     pub(crate) draw: u16,
-    pub(crate) tag: PumpTag,
+    pub(crate) tag: T,
 }
 
-#[derive(Clone, Copy)]
-pub struct GaugeDraft {
-    pub(crate) image: [u8; 16],
-    pub(crate) draw: u16,
-    pub(crate) tag: GaugeTag,
-}
+pub type PumpDraft = Draft<PumpTag, 256>;
+
+pub type GaugeDraft = Draft<GaugeTag, 16>;

@@ -9,6 +9,7 @@ pub mod drafts;
 pub mod faults;
 pub mod fields;
 pub mod lines;
+mod making;
 mod naming;
 pub mod orders;
 pub mod printing;

@@ -1,28 +1,26 @@
 // A line is read.
-ghost use Rattle.std.specs.Prelude.{◌≡◌, ◌≤◌};
-ghost use Rattle.sheet.specs.Fields.{in_bytes};
+ghost use Rattle.std.specs.Prelude.{◌≡◌, ◌≤◌, length};
 ghost use Rattle.parts.specs.Parts.{parted};
 ghost use Rattle.sheet.specs.Lines.{line_says, said_in, word_says};
 ghost use Rattle.typeb.specs.CheckBytes.{sealed};
+ghost use Rattle.typeb.specs.Messages.{bytes_of};
 
 use crate::bytes::Bytes;
 use crate::faults::LineFault;
 use crate::fields::{read_body, read_draw, read_number, read_page, read_raw};
 use crate::orders::{Line, Order};
-use crate::words::{Word, read_kind, word_of};
+use crate::words::{TagKind, Word};
 use parts::{field, field_count};
 use typeb::crc::seal_into;
 
 // A body with its check bytes behind it.
 fn sealed_body(body: Bytes) -> Bytes
-    requires { body.len ≤ 14 }
-    ensures { in_bytes result ≡ sealed (in_bytes body) }
+    requires { length (bytes_of body) ≤ 14 }
+    ensures { bytes_of result ≡ sealed (bytes_of body) }
 {
-    let mut all = [0u8; 16];
-    let Some(len) = seal_into(body.as_slice(), &mut all) else {
-        return body;
-    };
-    Bytes { all, len }
+    let mut bytes = [0u8; 16];
+    let len = seal_into(body.as_slice(), &mut bytes).unwrap();
+    Bytes::front_of(bytes, len)
 }
 
 // What the fields behind a word say, where their count is right.
@@ -31,7 +29,7 @@ fn read_fields(word: Word, line: &[u8]) -> Result<Line, LineFault>
 {
     match word {
         Word::Tag => {
-            let kind = read_kind(field(line, 1))?;
+            let kind = TagKind::try_from(field(line, 1))?;
             let draw = read_draw(field(line, 2))?;
             Ok(Line::Tag(kind, draw))
         }
@@ -67,9 +65,7 @@ fn read_fields(word: Word, line: &[u8]) -> Result<Line, LineFault>
 pub fn read_line(line: &[u8]) -> Result<Line, LineFault>
     ensures { said_in result ≡ line_says line.now }
 {
-    let Some(word) = word_of(field(line, 0)) else {
-        return Err(LineFault::UnknownWord);
-    };
+    let word = Word::try_from(field(line, 0))?;
     if field_count(line) != word.field_count() {
         return Err(LineFault::FieldCount);
     }

@@ -1,16 +1,16 @@
 // Tag lines and page lines.
-ghost use Rattle.std.specs.Prelude.{◌≡◌, [], map, IfOk, OnOk};
-ghost use Rattle.sheet.specs.Drafts.{pump_tag, gauge_tag};
+ghost use Rattle.std.specs.Prelude.{◌≡◌, [], map, IfOk, OnOk, string_bytes};
+ghost use Rattle.sheet.specs.Drafts.{tag_of};
 ghost use Rattle.sheet.specs.Sheets.{Naming, Went, named, paged, tray_in};
-ghost use Rattle.sheet.specs.Views.{named_stage, PagedBy};
+ghost use Rattle.sheet.specs.Views.{named_stage, stage_of, PagedBy};
 ghost use Rattle.tags.specs.Gauge.{gauge_means};
 ghost use Rattle.tags.specs.Pump.{pump_means};
 ghost use Rattle.tray_core.specs.Views.{model_of};
 
-use crate::drafting::{set_back, set_front};
-use crate::drafts::{GaugeDraft, PumpDraft};
+use crate::drafting::set_in_row;
+use crate::drafts::{Draft, GaugeDraft, PumpDraft};
 use crate::faults::LineFault;
-use crate::stages::Named;
+use crate::stages::{Done, Named, Stage};
 use crate::words::TagKind;
 use std::alloc::{AllocError, Global};
 use tags::gauge::GaugeTag;
@@ -49,9 +49,20 @@ impl Named {
         ensures { PagedBy result self.new (paged tag page bytes (named_stage self.old)) }
     {
         if tag < 32 {
-            set_front(self.front.as_mut_slice(), tag, page, bytes)
+            set_in_row(self.front.as_mut_slice(), tag, page, bytes)
         } else {
-            set_back(self.back.as_mut_slice(), tag - 32, page, bytes)
+            set_in_row(self.back.as_mut_slice(), tag - 32, page, bytes)
+        }
+    }
+
+    // The tags so far, where a line printed nothing.
+    pub(crate) fn into_done(self, heap: Global) -> Done
+        ensures text { string_bytes result.text ≡ [] }
+        ensures stage { stage_of result.stage ≡ named_stage self }
+    {
+        Done {
+            stage: Stage::Naming(self),
+            text: String::new(heap),
         }
     }
 
@@ -59,29 +70,18 @@ impl Named {
     pub(crate) fn load(&self, heap: Global) -> Result<Tray<PumpTag, GaugeTag>, AllocError>
         ensures { IfOk result (λ tray. model_of pump_means gauge_means tray ≡ tray_in (named_stage self.now)) }
     {
-        let front = pump_tags(heap, self.front.as_slice())?;
-        let back = gauge_tags(heap, self.back.as_slice())?;
+        let front = tags_of(heap, self.front.as_slice())?;
+        let back = tags_of(heap, self.back.as_slice())?;
         Ok(Tray::load(front, back))
     }
 }
 
 // The tags of drafts.
-fn pump_tags(heap: Global, drafts: &[PumpDraft]) -> Result<Vec<PumpTag>, AllocError>
-    ensures { IfOk result (λ v. v.items ≡ map pump_tag drafts.now) }
+fn tags_of<T: Copy, const N: usize>(
+    heap: Global,
+    drafts: &[Draft<T, N>],
+) -> Result<Vec<T>, AllocError>
+    ensures { IfOk result (λ tags. tags.items ≡ map tag_of drafts.now) }
 {
-    let mut all = Vec::new(heap);
-    for draft in drafts {
-        all.push(draft.tag)?;
-    }
-    Ok(all)
-}
-
-fn gauge_tags(heap: Global, drafts: &[GaugeDraft]) -> Result<Vec<GaugeTag>, AllocError>
-    ensures { IfOk result (λ v. v.items ≡ map gauge_tag drafts.now) }
-{
-    let mut all = Vec::new(heap);
-    for draft in drafts {
-        all.push(draft.tag)?;
-    }
-    Ok(all)
+    drafts.iter().map(Draft::made).collect(heap)
 }

@@ -1,9 +1,7 @@
 // How the answers of calls, and a refusal, are printed.
-ghost use Rattle.std.specs.Prelude.{[], ◌∷◌, take, Some, codes};
-ghost use Rattle.hex_pairs.specs.Hex.{hex_text};
-ghost use Rattle.sheet.specs.Printing.{text, serial_line, answer_text};
+ghost use Rattle.std.specs.Prelude.{◌≡◌, take, Some};
+ghost use Rattle.sheet.specs.Printing.{serial_line, answer_text};
 ghost use Rattle.std.specs.List.{flat_map};
-ghost use Rattle.std.specs.Fmt.{WritesOnOk};
 
 use hex_pairs::Hex;
 use std::fmt;
@@ -26,7 +24,10 @@ impl fmt::Display for Answered<'_> {
         match self.answer {
             Answer::Done => f.write_str("ok"),
             Answer::Silent => f.write_str("none"),
-            Answer::Reply(len) => put_reply(f, self.buffer, len),
+            Answer::Reply(len) => {
+                let reply = Hex(front(self.buffer, len));
+                write!(f, "reply,{reply}")
+            }
             Answer::Clash(count) => write!(f, "clash,{count}"),
             Answer::Stock {
                 frames,
@@ -36,8 +37,7 @@ impl fmt::Display for Answered<'_> {
             } => {
                 let serials = Serials {
                     number: self.number,
-                    list: self.list,
-                    listed,
+                    list: front(self.list, listed),
                 };
                 write!(f, "stock,{frames},{rounds},{clashes}{serials}")
             }
@@ -45,31 +45,27 @@ impl fmt::Display for Answered<'_> {
     }
 }
 
-// A reply at the front of a buffer.
-fn put_reply<W: fmt::Write>(f: &mut fmt::Formatter<W>, buffer: &[u8], len: usize) -> fmt::Result
-    ensures { WritesOnOk W.write_str_gives f.old result (text (codes "reply," ∷ hex_text (take len buffer.now) ∷ [])) f.new }
+// The first items of a slice; all of it where it has fewer.
+fn front<T>(items: &[T], count: usize) -> &[T]
+    ensures { result.now ≡ take count items.now }
 {
-    let end = len.min(buffer.len());
-    let reply = Hex(&buffer[0..end]);
-    write!(f, "reply,{reply}")
+    &items[..count.min(items.len())]
 }
 
-// The serial numbers at the front of a list, each on a line of its own.
+// Serial numbers, each on a line of its own.
 #[derive(Clone, Copy)]
 struct Serials<'a> {
     number: usize,
     list: &'a [Serial],
-    listed: usize,
 }
 
 impl fmt::Display for Serials<'_> {
-    ghost output = { λ s. Some (flat_map (serial_line s.number) (take s.listed s.list.now)) };
+    ghost output = { λ s. Some (flat_map (serial_line s.number) s.list.now) };
 
     fn fmt<W: fmt::Write>(&self, f: &mut fmt::Formatter<W>) -> fmt::Result {
         let number = self.number;
-        let list = self.list;
-        for i in 0..self.listed.min(list.len()) {
-            let serial = Hex(&list[i]);
+        for serial in self.list {
+            let serial = Hex(serial);
             write!(f, "\n{number},serial,{serial}")?;
         }
         Ok(())

@@ -1,5 +1,6 @@
 // A sheet is run.
-ghost use Rattle.std.specs.Prelude.{◌≡◌, [], IfOk, string_bytes};
+ghost use Rattle.std.specs.Prelude.{◌≡◌, [], IfOk, MatchOption, string_bytes};
+ghost use Rattle.sheet.specs.Cuts.{IsEnded, IsUnended};
 ghost use Rattle.parts.specs.Parts.{parted};
 ghost use Rattle.sheet.specs.Sheets.{Naming, before, stopped_at, lines_run, run_of, printed_of, refusal_of};
 ghost use Rattle.sheet.specs.Played.{SheetPlays};
@@ -8,7 +9,6 @@ ghost use Rattle.sheet.specs.Views.{refused_by, refused_in, run_by, StoppedBy};
 use crate::faults::LineFault;
 use crate::stages::{Named, Stage};
 use crate::stops::{Ran, SheetFault, Stop};
-use parts::first_length;
 use refusals::Refusal;
 use std::alloc::{AllocError, Global};
 
@@ -40,10 +40,9 @@ impl SheetFault {
 }
 
 // A run that is refused: the refusal's line ends its text.
-fn refuse(heap: Global, text: String, fault: SheetFault) -> Result<Ran, AllocError>
+fn refuse(heap: Global, mut text: String, fault: SheetFault) -> Result<Ran, AllocError>
     ensures { IfOk result (λ ran. run_by ran ≡ before (string_bytes text) (stopped_at (refused_by fault).line (refused_by fault).why)) }
 {
-    let mut text = text;
     let number = fault.line();
     let why = fault.number();
     let line = format!(in heap; "{number},refused,{why}\n")?;
@@ -64,52 +63,49 @@ fn stop_at(heap: Global, text: String, number: usize, stop: Stop) -> Result<Ran,
     }
 }
 
+// What stands before the LF that ends a line; none where no LF is among its first 80 bytes.
+fn ended(line: &[u8]) -> Option<&[u8]>
+    ensures { MatchOption result (IsUnended line.now) (λ front. IsEnded line.now front.now) }
+{
+    match line {
+        [front @ .., b'\n'] if front.len() <= LINE_MOST => Some(front),
+        _ => None,
+    }
+}
+
 // Runs the lines of a sheet.
 fn run_lines(heap: Global, sheet: &[u8]) -> Result<Ran, AllocError>
     ensures { IfOk result (λ ran. run_by ran ≡ lines_run 1 (Naming [] []) (parted 10 sheet.now)) }
 {
     let mut text = String::new(heap);
     let mut stage = Stage::Naming(Named::new(heap));
-    let mut rest = sheet;
-    let mut number = 1;
-    while rest.len() > 0 {
-        let end = first_length(b'\n', rest);
-        if end == rest.len() {
+    for (i, line) in sheet.split_inclusive(|c| *c == b'\n').enumerate() {
+        let number = i + 1;
+        let Some(line) = ended(line) else {
             return refuse(heap, text, SheetFault::Line(number, LineFault::Unended));
-        }
-        if end > LINE_MOST {
-            return refuse(heap, text, SheetFault::Line(number, LineFault::Unended));
-        }
-        match stage.do_line(heap, number, &rest[0..end]) {
+        };
+        match stage.do_line(heap, number, line) {
             Ok(done) => {
                 text.push_str(done.text.as_str())?;
                 stage = done.stage;
             }
             Err(stop) => return stop_at(heap, text, number, stop),
         }
-        rest = &rest[end + 1..];
-        number += 1;
     }
     Ok(Ran { text, fault: None })
-}
-
-// Runs a sheet, or refuses one that is too long.
-fn run_whole(heap: Global, sheet: &[u8]) -> Result<Ran, AllocError>
-    ensures { IfOk result (λ ran. run_by ran ≡ run_of sheet.now) }
-{
-    if sheet.len() > SHEET_MOST {
-        return refuse(heap, String::new(heap), SheetFault::TooLong);
-    }
-    run_lines(heap, sheet)
 }
 
 // Runs a sheet: the text that it prints, the line of a refusal included, and why it was refused, if it was.
 // Want of memory is the only error. The text is that of the sheet's calls, put to the loaded tray one after
 // another up to the first refusal: clause `calls`.
+#[tactic(auto, using(crate::proofs::Playing::sheet_plays))]
 pub fn run_sheet(heap: Global, sheet: &[u8]) -> Result<Ran, AllocError>
     ensures printed { IfOk result (λ ran. string_bytes ran.text ≡ printed_of sheet.now) }
     ensures refused { IfOk result (λ ran. refused_in ran.fault ≡ refusal_of sheet.now) }
     ensures calls { SheetPlays sheet.now }
 {
-    run_whole(heap, sheet)
+    if sheet.len() > SHEET_MOST {
+        return refuse(heap, String::new(heap), SheetFault::TooLong);
+    }
+    run_lines(heap, sheet)
 }

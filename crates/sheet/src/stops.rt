@@ -1,8 +1,10 @@
 // What stops a run.
 ghost use Rattle.std.specs.Prelude.{◌≡◌};
+ghost use Rattle.sheet.specs.declared.faults.LineFault.TheVariants.{Refused};
 ghost use Rattle.sheet.specs.declared.stops.Stop.TheVariants.{Memory, Fault};
 
 use crate::faults::LineFault;
+use refusals::Refusal;
 use std::alloc::AllocError;
 
 // What stops a run at a line: a fault of the line, or want of memory.
@@ -17,6 +19,14 @@ impl From<LineFault> for Stop {
 
     fn from(fault: LineFault) -> Stop {
         Stop::Fault(fault)
+    }
+}
+
+impl From<Refusal> for Stop {
+    ghost from_gives = { λ e r. r ≡ Fault (Refused e) };
+
+    fn from(why: Refusal) -> Stop {
+        Stop::Fault(LineFault::Refused(why))
     }
 }
 

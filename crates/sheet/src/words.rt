@@ -1,9 +1,10 @@
 // The words of a line.
 ghost use Rattle.std.specs.Prelude.{◌≡◌};
+ghost use Rattle.std.specs.Option.{ok_or};
+ghost use Rattle.sheet.specs.declared.faults.LineFault.TheVariants.{UnknownWord};
 ghost use Rattle.sheet.specs.Lines.{word_of, field_count, kind_of};
 
-use crate::faults::FieldFault;
-use typeb::bytes::same_bytes;
+use crate::faults::{FieldFault, LineFault};
 
 #[derive(Clone, Copy, PartialEq, Eq, Debug)]
 pub enum Word {
@@ -24,35 +25,30 @@ pub enum TagKind {
     Gauge,
 }
 
-// The word that a first field is; none where it is no known word.
-pub fn word_of(text: &[u8]) -> Option<Word>
-    ensures { result ≡ word_of text.now }
-{
-    if same_bytes(text, b"tag") {
-        Some(Word::Tag)
-    } else if same_bytes(text, b"page") {
-        Some(Word::Page)
-    } else if same_bytes(text, b"on") {
-        Some(Word::On)
-    } else if same_bytes(text, b"off") {
-        Some(Word::Off)
-    } else if same_bytes(text, b"place") {
-        Some(Word::Place)
-    } else if same_bytes(text, b"lift") {
-        Some(Word::Lift)
-    } else if same_bytes(text, b"stock") {
-        Some(Word::Stock)
-    } else if same_bytes(text, b"send") {
-        Some(Word::Send)
-    } else if same_bytes(text, b"raw") {
-        Some(Word::Raw)
-    } else {
-        None
+// The word that a first field is.
+impl TryFrom<&[u8]> for Word {
+    type Error = LineFault;
+
+    ghost try_from_gives = { λ text r. r ≡ ok_or (word_of text.now) UnknownWord };
+
+    fn try_from(text: &[u8]) -> Result<Word, LineFault> {
+        match text {
+            b"tag" => Ok(Word::Tag),
+            b"page" => Ok(Word::Page),
+            b"on" => Ok(Word::On),
+            b"off" => Ok(Word::Off),
+            b"place" => Ok(Word::Place),
+            b"lift" => Ok(Word::Lift),
+            b"stock" => Ok(Word::Stock),
+            b"send" => Ok(Word::Send),
+            b"raw" => Ok(Word::Raw),
+            _ => Err(LineFault::UnknownWord),
+        }
     }
 }
 
 impl Word {
-    // How many fields a line of this word has, the word included.
+    // How many fields a line of this word has, the word included. Several words have as many, so it is no number of the case.
     pub fn field_count(self) -> usize
         ensures { result ≡ field_count self }
     {
@@ -66,14 +62,16 @@ impl Word {
 }
 
 // The kind of a tag line.
-pub fn read_kind(text: &[u8]) -> Result<TagKind, FieldFault>
-    ensures { result ≡ kind_of text.now }
-{
-    if same_bytes(text, b"pump") {
-        Ok(TagKind::Pump)
-    } else if same_bytes(text, b"gauge") {
-        Ok(TagKind::Gauge)
-    } else {
-        Err(FieldFault::Kind)
+impl TryFrom<&[u8]> for TagKind {
+    type Error = FieldFault;
+
+    ghost try_from_gives = { λ text r. r ≡ kind_of text.now };
+
+    fn try_from(text: &[u8]) -> Result<TagKind, FieldFault> {
+        match text {
+            b"pump" => Ok(TagKind::Pump),
+            b"gauge" => Ok(TagKind::Gauge),
+            _ => Err(FieldFault::Kind),
+        }
     }
 }
