@@ -1,3 +1,3 @@
 pub mod Stepping
 pub mod Quotes
-pub mod Cutting
+pub mod Numbering

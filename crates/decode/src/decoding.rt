@@ -4,7 +4,7 @@ ghost use Rattle.decode.specs.Lines.{line_bytes, lines_of};
 ghost use Rattle.decode.specs.Report.{reported, faulted, all_reports, all_faults};
 
 use crate::faults::Fault;
-use crate::lines::{first_length, read_line};
+use crate::lines::read_line;
 use crate::report::report_line;
 use std::alloc::{AllocError, Global};
 
@@ -37,7 +37,8 @@ impl Decoded {
     }
 }
 
-// Decodes a text line by line. With `sealing` the bytes of each line are sealed first.
+// Decodes a text line by line. With `sealing` the bytes of each line are sealed first: a flag of the command line, which each
+// definition takes too, so a closure for the step would be no plainer.
 pub fn decode_text(heap: Global, text: &[u8], sealing: bool) -> Result<Decoded, AllocError>
     ensures reports { IfOk result (λ d. string_bytes d.reports ≡ all_reports sealing (lines_of text.now)) }
     ensures faults { IfOk result (λ d. string_bytes d.faults ≡ all_faults 1 (lines_of text.now)) }
@@ -46,17 +47,10 @@ pub fn decode_text(heap: Global, text: &[u8], sealing: bool) -> Result<Decoded, 
         reports: String::new(heap),
         faults: String::new(heap),
     };
-    let mut rest = text;
-    let mut number = 1;
-    loop {
-        let end = first_length(rest);
-        decoded.add_line(heap, number, &rest[0..end], sealing)?;
-        if end == rest.len() {
-            return Ok(decoded);
-        }
-        rest = &rest[end + 1..];
-        number += 1;
+    for (i, line) in text.split(|c| *c == b'\n').enumerate() {
+        decoded.add_line(heap, i + 1, line, sealing)?;
     }
+    Ok(decoded)
 }
 
 #[cfg(test)]

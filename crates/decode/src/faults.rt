@@ -59,10 +59,12 @@ fn put_quoted<W: fmt::Write>(f: &mut fmt::Formatter<W>, text: &[u8]) -> fmt::Res
 fn put_byte<W: fmt::Write>(f: &mut fmt::Formatter<W>, c: u8) -> fmt::Result
     ensures { WritesOnOk W.write_str_gives f.old result (quoted_byte c) f.new }
 {
-    if c >= b' ' && c <= b'~' {
-        return f.write_char(char::from(c));
+    match c {
+        b' '..=b'~' => f.write_char(char::from(c)),
+        _ => {
+            let bytes = [c];
+            let code = Hex(&bytes);
+            write!(f, "\\x{code}")
+        }
     }
-    let bytes = [c];
-    let code = Hex(&bytes);
-    write!(f, "\\x{code}")
 }

@@ -1,31 +1,15 @@
-// The words of the command line.
-ghost use Rattle.std.specs.Prelude.{◌≡◌};
-ghost use Rattle.decode.specs.Options.{word_of};
-
-use console::words::{is_dashed, same_word};
+// The options of the command line.
+ghost use Rattle.decode.specs.Options.{MeansAs};
 
 #[derive(Clone, Copy, PartialEq, Eq, Debug)]
-pub enum Word {
+pub enum Flag {
     Seal,
     Help,
-    Unknown,
-    // The name of the input, a file or a dash.
-    Input,
 }
 
-// What a word means: an option, or the name of the input. A dash alone is such a name.
-pub fn word_of(word: &str) -> Word
-    ensures { result ≡ word_of word.now }
+// The options and their names.
+pub fn options() -> [(&'static str, Flag); 2]
+    ensures { MeansAs result }
 {
-    if same_word(word, "--seal") {
-        Word::Seal
-    } else if same_word(word, "--help") {
-        Word::Help
-    } else if same_word(word, "-") {
-        Word::Input
-    } else if is_dashed(word) {
-        Word::Unknown
-    } else {
-        Word::Input
-    }
+    [("--seal", Flag::Seal), ("--help", Flag::Help)]
 }

@@ -100,7 +100,7 @@ fn put_halt<W: fmt::Write>(f: &mut fmt::Formatter<W>, serial: Serial) -> fmt::Re
     write!(f, "HLTB, serial {serial}")
 }
 
-// The names of the data commands.
+// The names of the data commands. No Display: Op is a type of typeb.
 pub fn op_name(op: Op) -> &'static str
     ensures { result.now ≡ op_name op }
 {
@@ -136,7 +136,7 @@ impl fmt::Display for Carried<'_> {
             Op::Write => write!(f, ", page {page}, data {all}"),
             Op::Lock => write!(f, ", lock bits {lock_bits}"),
             Op::CheckPassword => write!(f, ", password {all}"),
-            Op::Deselect => f.write_str(""),
+            Op::Deselect => Ok(()),
             Op::Count => write!(f, ", signature {signature}"),
         }
     }

@@ -1,8 +1,14 @@
--- Commands and what is heard, in plain words.
-use Rattle.std.specs.Prelude.{ℕ, Bool, cond, List, [], ◌∷◌, ◌++◌, codes, decimal, ◌==◌}
+-- Commands, calls, what is heard, answers and refusals, in plain words.
+use Rattle.std.specs.Prelude.{ℕ, Bool, cond, List, [], ◌∷◌, ◌++◌, Some, Ok, Err, Option, Result, codes, decimal, ◌==◌}
+use Rattle.refusals.specs.declared.Refusal.{Refusal}
+use Rattle.refusals.specs.declared.Refusal.TheVariants as refusal
+use Rattle.refusals.specs.Numbers.{number}
 use Rattle.hex_pairs.specs.Hex.{hex_text}
 use Rattle.tags.specs.Says.{Says, Answer, Card, Page, Acknowledged, Refused}
 use Rattle.reader.specs.Commands.{Asked, Request, SlotMarker, Attrib, Halt, Read, Write, Lock, CheckPassword, Deselect, Count}
+use Rattle.tray_core.specs.declared.calls.Answer as calls
+use Rattle.tray_core.specs.declared.calls.Answer.TheVariants as answer
+use Rattle.tray_core.specs.Step as step
 use Rattle.scenario.specs.Speaks.{Hearing, Silence, Clash, Said}
 
 abbrev pub answer_words : List ℕ → List ℕ
@@ -63,3 +69,48 @@ command_words (Lock cid locks) = lock_words cid locks
 command_words (CheckPassword cid password) = check_words cid password
 command_words (Deselect cid) = codes "DESELECT card " ++ decimal cid
 command_words (Count cid signature) = count_words cid signature
+
+abbrev pub call_words : step.Asks → List ℕ
+call_words step.On = codes "field on"
+call_words step.Off = codes "field off"
+call_words (step.Place n) = codes "place " ++ decimal n
+call_words (step.Lift n) = codes "lift " ++ decimal n
+call_words (step.Frame bytes) = codes "frame " ++ hex_text bytes
+call_words step.Stock = codes "stock"
+
+-- Refusals of sheets have one meaning here: the story has no sheet.
+abbrev pub meaning_words : Refusal → List ℕ
+meaning_words refusal.ImageLength = codes "image of a wrong length"
+meaning_words refusal.ImageLockBits = codes "image with wrong lock bits"
+meaning_words refusal.ImageCounter = codes "image with a counter past its end"
+meaning_words refusal.RowTooLong = codes "row too long"
+meaning_words refusal.NoSuchTag = codes "no such tag"
+meaning_words refusal.BufferTooShort = codes "buffer too short"
+meaning_words refusal.ListTooShort = codes "list too short"
+meaning_words refusal.ValueOutOfRange = codes "value out of range"
+meaning_words refusal.ReplyLength = codes "reply of a wrong length"
+meaning_words refusal.ReplyUnsound = codes "reply unsound"
+meaning_words refusal.ReplyUnexpected = codes "reply unexpected"
+meaning_words refusal.SheetTooLong = codes "sheet refused"
+meaning_words refusal.LineTooLong = codes "sheet refused"
+meaning_words refusal.UnknownWord = codes "sheet refused"
+meaning_words refusal.FieldCount = codes "sheet refused"
+meaning_words refusal.FieldForm = codes "sheet refused"
+meaning_words refusal.TagAfterCall = codes "sheet refused"
+meaning_words refusal.NoSuchPage = codes "sheet refused"
+
+abbrev pub refusal_words : Refusal → List ℕ
+refusal_words why = codes "refused, " ++ (decimal (number why) ++ (codes " " ++ meaning_words why))
+
+abbrev pub told_words : calls.Answer → List ℕ
+told_words answer.Done = codes "done"
+told_words answer.Silent = codes "silence"
+told_words (answer.Reply n) = codes "a reply of " ++ (decimal n ++ codes " bytes")
+told_words (answer.Clash n) = codes "clash of " ++ decimal n
+told_words (answer.Stock frames rounds clashes listed) =
+    decimal frames ++ (codes " frames, " ++ (decimal rounds ++ (codes " rounds, " ++ (decimal clashes ++ (codes " clashed slots, " ++ (decimal listed ++ codes " serial numbers"))))))
+
+-- By how what was brought is shown.
+abbrev pub outcome_words : {T : Type 0} → (T → Option (List ℕ)) → Result T Refusal → Option (List ℕ)
+outcome_words shown (Ok brought) = shown brought
+outcome_words shown (Err why) = Some (refusal_words why)

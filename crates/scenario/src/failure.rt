@@ -1,46 +1,19 @@
 // Why the story cannot go on.
-use crate::wording::Reason;
+use crate::wording::Refused;
 use refusals::Refusal;
 use std::alloc::AllocError;
-use std::{fmt, io};
+use std::io;
+use thiserror::Error;
 
-#[derive(Drop)]
+#[derive(Debug, Drop, Error)]
 pub enum Failure {
     // a tag could not be made, or the reader refused a command or a reply
-    Refused(Refusal),
+    #[error("{why}", why = Refused(*.0))]
+    Refused(#[from] Refusal),
     // want of memory
-    Memory(AllocError),
+    #[error(transparent)]
+    Memory(#[from] AllocError),
     // a line could not be written
-    Output(io::Error),
-}
-
-impl From<Refusal> for Failure {
-    fn from(why: Refusal) -> Failure {
-        Failure::Refused(why)
-    }
-}
-
-impl From<AllocError> for Failure {
-    fn from(why: AllocError) -> Failure {
-        Failure::Memory(why)
-    }
-}
-
-impl From<io::Error> for Failure {
-    fn from(why: io::Error) -> Failure {
-        Failure::Output(why)
-    }
-}
-
-impl fmt::Display for Failure {
-    fn fmt<W: fmt::Write>(&self, f: &mut fmt::Formatter<W>) -> fmt::Result {
-        match self {
-            Failure::Refused(why) => {
-                let reason = Reason(*why);
-                write!(f, "refused, {reason}")
-            }
-            Failure::Memory(why) => write!(f, "{why}"),
-            Failure::Output(why) => write!(f, "cannot write: {why}"),
-        }
-    }
+    #[error("cannot write: {0}")]
+    Output(#[from] io::Error),
 }

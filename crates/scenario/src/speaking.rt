@@ -1,12 +1,10 @@
 // Speaking to a tray: commands, and judged replies, in place of bytes.
-ghost use Rattle.std.specs.Prelude.{◌≡◌, ◌≤◌, [], length, take, replicate, Ok};
+ghost use Rattle.std.specs.Prelude.{◌≡◌, ◌≤◌, [], length, replicate, Ok};
 ghost use Rattle.reader.specs.Commands.{asked_of};
-ghost use Rattle.reader.specs.Judged.{judged};
 ghost use Rattle.tray_core.specs.Step.{Frame, Stock, asks_of, numbered, step};
 ghost use Rattle.tray_core.specs.Views.{model_of};
-ghost use Rattle.scenario.specs.Speaks.{hearing_after, hearing_back, hearing_in, reply_size, said, taken, tray_after, buffer_after};
+ghost use Rattle.scenario.specs.Speaks.{hearing_after, hearing_back, hearing_in, reply_size, taken, tray_after, buffer_after};
 
-use crate::calls::stock;
 use reader::commands::Command;
 use reader::judging::judge;
 use reader::making::make;
@@ -23,46 +21,8 @@ pub enum Heard {
     Silence,
     // so many tags answered at once
     Clash(usize),
-    // one tag answered: its answer to a request, the card number that it took, a page, or whether it obeyed
-    Answer {
-        serial: Serial,
-        application: [u8; 4],
-        protocol: [u8; 3],
-    },
-    Card(u8),
-    Page([u8; 8]),
-    Acknowledged,
-    // the NACK's code
-    Refused(u8),
-}
-
-// What one tag's reply says.
-fn hear_reply(command: Command<'_>, reply: &[u8]) -> Result<Heard, Refusal>
-    ensures { hearing_in result ≡ said (judged (asked_of command.entry) reply.now) }
-{
-    match judge(command, reply)? {
-        Reply::Answer {
-            serial,
-            application,
-            protocol,
-        } => Ok(Heard::Answer {
-            serial,
-            application,
-            protocol,
-        }),
-        Reply::Card(cid) => Ok(Heard::Card(cid)),
-        Reply::Page(bytes) => Ok(Heard::Page(*bytes)),
-        Reply::Acknowledged => Ok(Heard::Acknowledged),
-        Reply::Refused(code) => Ok(Heard::Refused(code)),
-    }
-}
-
-// The first bytes of a buffer.
-fn front_of(bytes: &[u8], len: usize) -> &[u8]
-    requires { len ≤ length bytes.now }
-    ensures { result.now ≡ take len bytes.now }
-{
-    &bytes[0..len]
+    // one tag answered
+    Said(Reply),
 }
 
 // What is heard in the tray's answer, with a reply at the front of the buffer.
@@ -71,7 +31,7 @@ fn hear_answer(command: Command<'_>, answer: Answer, buffer: &[u8]) -> Result<He
     ensures { hearing_in result ≡ taken (asked_of command.entry) buffer.now (Ok answer) }
 {
     match answer {
-        Answer::Reply(n) => hear_reply(command, front_of(buffer, n)),
+        Answer::Reply(n) => judge(command, &buffer[0..n]).map(Heard::Said),
         Answer::Clash(n) => Ok(Heard::Clash(n)),
         Answer::Silent | Answer::Done | Answer::Stock { .. } => Ok(Heard::Silence),
     }
@@ -88,11 +48,8 @@ fn hear_frame<F: Kind, B: Kind>(
     ensures leaves { model_of F.Kind.means B.Kind.means tray.new ≡ (step F.Kind.acts B.Kind.acts (Frame frame.now) (model_of F.Kind.means B.Kind.means tray.old) buffer.old []).tray }
     ensures writes { buffer.new ≡ (step F.Kind.acts B.Kind.acts (Frame frame.now) (model_of F.Kind.means B.Kind.means tray.old) buffer.old []).buffer }
 {
-    let mut list: [Serial; 0] = [];
-    match tray.handle(Call::Frame(frame), buffer, &mut list) {
-        Ok(answer) => hear_answer(command, answer, buffer),
-        Err(why) => Err(why),
-    }
+    let answer = tray.handle(Call::Frame(frame), buffer, &mut [])?;
+    hear_answer(command, answer, buffer)
 }
 
 // Says a command before the tray, with a lent buffer for the reply, and judges what comes back.
@@ -106,10 +63,8 @@ pub fn say_into<F: Kind, B: Kind>(
     ensures writes { buffer.new ≡ buffer_after F.Kind.acts B.Kind.acts (asked_of command.entry) (model_of F.Kind.means B.Kind.means tray.old) buffer.old }
 {
     let mut frame = [0u8; 16];
-    match make(command, &mut frame) {
-        Ok(len) => hear_frame(tray, command, front_of(&frame, len), buffer),
-        Err(why) => Err(why),
-    }
+    let len = make(command, &mut frame)?;
+    hear_frame(tray, command, &frame[0..len], buffer)
 }
 
 // Says a command before the tray, and judges what comes back.
@@ -122,13 +77,11 @@ pub fn say<F: Kind, B: Kind>(tray: &mut Tray<F, B>, command: Command<'_>) -> Res
 }
 
 // Makes a call that needs no buffer and no list.
-pub fn act<F: Kind, B: Kind>(tray: &mut Tray<F, B>, call: Call<'_>) -> Result<Answer, Refusal>
+pub fn act<F: Kind, B: Kind>(tray: &mut Tray<F, B>, call: Call<&[u8]>) -> Result<Answer, Refusal>
     ensures answers { numbered result ≡ (step F.Kind.acts B.Kind.acts (asks_of call.entry) (model_of F.Kind.means B.Kind.means tray.old) [] []).answer }
     ensures leaves { model_of F.Kind.means B.Kind.means tray.new ≡ (step F.Kind.acts B.Kind.acts (asks_of call.entry) (model_of F.Kind.means B.Kind.means tray.old) [] []).tray }
 {
-    let mut buffer = [0u8; 0];
-    let mut list: [Serial; 0] = [];
-    tray.handle(call, &mut buffer, &mut list)
+    tray.handle(call, &mut [], &mut [])
 }
 
 // Takes stock, into a lent list.
@@ -140,6 +93,5 @@ pub fn take_stock<F: Kind, B: Kind>(
     ensures leaves { model_of F.Kind.means B.Kind.means tray.new ≡ (step F.Kind.acts B.Kind.acts Stock (model_of F.Kind.means B.Kind.means tray.old) [] list.old).tray }
     ensures lists { list.new ≡ (step F.Kind.acts B.Kind.acts Stock (model_of F.Kind.means B.Kind.means tray.old) [] list.old).list }
 {
-    let mut buffer = [0u8; 0];
-    tray.handle(stock(), &mut buffer, list)
+    tray.handle(Call::Stock, &mut [], list)
 }

@@ -1,9 +1,8 @@
 // The story: one pump tag from its first request to its last, then several tags at once.
-use crate::calls::{field_off, field_on, lift, place};
 use crate::failure::Failure;
 use crate::making::{PASSWORD, gauge_tag, pump_tag};
 use crate::speaking::{act, say, say_into, take_stock};
-use crate::wording::{Name, Outcome, Reason, Words};
+use crate::wording::{Name, Outcome, Told, Words};
 use hex_pairs::Hex;
 use reader::commands::Command;
 use std::alloc::Global;
@@ -30,25 +29,24 @@ const WRONG: [u8; 8] = [0xC0, 0xFF, 0xEE, 0x01, 0x02, 0x03, 0x04, 0x06];
 // The card number of the first tag.
 const CARD: u8 = 5;
 
-// One line: a command, and what came of it.
+// One line: a command, and what came of it. Runtime and tray come first in every step, by reference, as std takes the
+// runtime: no struct holds both.
 fn speak(rt: &HostRuntime, tray: &mut Before, command: Command<'_>) -> Result<(), Failure> {
     let heard = say(tray, command)?;
-    let words = Words(command);
-    println!(rt; "{words}: {heard}")?;
+    println!(rt; "{}: {heard}", Words(command))?;
     Ok(())
 }
 
 // One line: a call, and what came of it.
-fn order(rt: &HostRuntime, tray: &mut Before, call: Call<'_>) -> Result<(), Failure> {
-    let outcome = Outcome(act(tray, call));
-    let name = Name(call);
-    println!(rt; "{name}: {outcome}")?;
+fn order(rt: &HostRuntime, tray: &mut Before, call: Call<&[u8]>) -> Result<(), Failure> {
+    let answer = act(tray, call).map(Told);
+    println!(rt; "{}: {}", Name(call), Outcome(answer))?;
     Ok(())
 }
 
 // The tag answers, is selected, and hides its pages until it hears its password.
 fn select(rt: &HostRuntime, tray: &mut Before) -> Result<(), Failure> {
-    order(rt, tray, field_on())?;
+    order(rt, tray, Call::On)?;
     speak(rt, tray, Command::request(false, 0x00, 1))?;
     speak(rt, tray, Command::attrib(FIRST, CARD, &[]))?;
     speak(rt, tray, Command::read(CARD, 4))?;
@@ -75,7 +73,7 @@ fn count_and_leave(rt: &HostRuntime, tray: &mut Before) -> Result<(), Failure> {
     speak(rt, tray, Command::deselect(CARD))?;
     speak(rt, tray, Command::request(false, 0x00, 1))?;
     speak(rt, tray, Command::request(true, 0x00, 1))?;
-    order(rt, tray, field_off())
+    order(rt, tray, Call::Off)
 }
 
 fn one_tag(rt: &HostRuntime) -> Result<(), Failure> {
@@ -102,10 +100,10 @@ fn several(heap: Global) -> Result<Before, Failure> {
 
 // Too many answer at once; with fewer tags and more slots each is heard.
 fn single_out(rt: &HostRuntime, tray: &mut Before) -> Result<(), Failure> {
-    order(rt, tray, field_on())?;
+    order(rt, tray, Call::On)?;
     speak(rt, tray, Command::request(false, 0x00, 1))?;
-    order(rt, tray, lift(1))?;
-    order(rt, tray, lift(33))?;
+    order(rt, tray, Call::Lift(1))?;
+    order(rt, tray, Call::Lift(33))?;
     speak(rt, tray, Command::request(false, 0x00, 1))?;
     speak(rt, tray, Command::request(false, 0x00, 4))?;
     speak(rt, tray, Command::slot_marker(2))?;
@@ -113,19 +111,17 @@ fn single_out(rt: &HostRuntime, tray: &mut Before) -> Result<(), Failure> {
     speak(rt, tray, Command::slot_marker(4))?;
     speak(rt, tray, Command::halt(FOURTH))?;
     speak(rt, tray, Command::request(false, 0x00, 1))?;
-    order(rt, tray, place(1))
+    order(rt, tray, Call::Place(1))
 }
 
 // Which tags are there.
 fn list_all(rt: &HostRuntime, tray: &mut Before) -> Result<(), Failure> {
     let mut list = [[0u8; 4]; 128];
     let answer = take_stock(tray, &mut list);
-    let outcome = Outcome(answer);
-    println!(rt; "stock: {outcome}")?;
+    println!(rt; "stock: {}", Outcome(answer.map(Told)))?;
     if let Ok(Answer::Stock { listed, .. }) = answer {
         for serial in list.iter().take(listed) {
-            let serial = Hex(serial);
-            println!(rt; "listed: {serial}")?;
+            println!(rt; "listed: {}", Hex(serial))?;
         }
     }
     Ok(())
@@ -136,19 +132,17 @@ fn refuse(rt: &HostRuntime, tray: &mut Before) -> Result<(), Failure> {
     let request = Command::request(false, 0x00, 1);
     let wake_up = Command::request(true, 0x00, 1);
     speak(rt, tray, wake_up)?;
-    order(rt, tray, place(31))?;
+    order(rt, tray, Call::Place(31))?;
     let mut buffer = [0u8; 8];
-    let words = Words(request);
-    match say_into(tray, request, &mut buffer) {
-        Ok(heard) => println!(rt; "{words}, into a buffer of 8 bytes: {heard}")?,
-        Err(why) => {
-            let reason = Reason(why);
-            println!(rt; "{words}, into a buffer of 8 bytes: refused, {reason}")?;
-        }
-    }
+    let heard = say_into(tray, request, &mut buffer);
+    println!(rt;
+        "{}, into a buffer of 8 bytes: {}",
+        Words(request),
+        Outcome(heard)
+    )?;
     let mut list = [[0u8; 4]; 100];
-    let outcome = Outcome(take_stock(tray, &mut list));
-    println!(rt; "stock, into a list of 100 places: {outcome}")?;
+    let answer = take_stock(tray, &mut list).map(Told);
+    println!(rt; "stock, into a list of 100 places: {}", Outcome(answer))?;
     speak(rt, tray, wake_up)
 }
 
@@ -158,7 +152,7 @@ fn several_tags(rt: &HostRuntime) -> Result<(), Failure> {
     single_out(rt, &mut tray)?;
     list_all(rt, &mut tray)?;
     refuse(rt, &mut tray)?;
-    order(rt, &mut tray, field_off())?;
+    order(rt, &mut tray, Call::Off)?;
     speak(rt, &mut tray, Command::request(false, 0x00, 1))
 }
 

@@ -11,31 +11,19 @@ const NAMES: [&str; 4] = ["labelling", "closed-probed", "stock-of-40", "refused"
 const NAME: &str = "sheets";
 
 fn read_file(rt: &HostRuntime, name: &str, ending: &str) -> Result<Vec<u8>, Failed> {
-    let path = match format!(in rt.alloc(); "{name}.{ending}") {
-        Ok(path) => path,
-        Err(e) => return Err(stop(rt, NAME, e)),
-    };
-    match fs::read(rt, path.as_str()) {
-        Ok(bytes) => Ok(bytes),
-        Err(e) => Err(stop(rt, NAME, format_args!("cannot read {path}: {e}"))),
-    }
+    let path = format!(in rt.alloc(); "{name}.{ending}").map_err(|e| stop(rt, NAME, e))?;
+    fs::read(rt, path.as_str()).map_err(|e| stop(rt, NAME, format_args!("cannot read {path}: {e}")))
 }
 
 // Runs one sheet.
 fn try_sheet(rt: &HostRuntime, name: &str) -> Result<(), Failed> {
     let sheet = read_file(rt, name, "sheet")?;
     let expected = read_file(rt, name, "out")?;
-    let ran = match run_sheet(rt.alloc(), sheet.as_slice()) {
-        Ok(ran) => ran,
-        Err(e) => return Err(stop(rt, NAME, e)),
-    };
+    let ran = run_sheet(rt.alloc(), sheet.as_slice()).map_err(|e| stop(rt, NAME, e))?;
     if ran.text.as_bytes() != expected.as_slice() {
         return Err(stop(rt, NAME, format_args!("{name} differs")));
     }
-    match println!(rt; "{name} agrees") {
-        Ok(()) => Ok(()),
-        Err(e) => Err(stop(rt, NAME, format_args!("cannot write: {e}"))),
-    }
+    println!(rt; "{name} agrees").map_err(|e| stop(rt, NAME, format_args!("cannot write: {e}")))
 }
 
 fn run(rt: &HostRuntime) -> Result<(), Failed> {

@@ -22,6 +22,7 @@ impl fmt::Display for Fault {
     }
 }
 
+// The texts are functions and no Display: the faults are types of other crates, and each would want a wrapper here.
 fn what_of(fault: LineFault) -> &'static str {
     match fault {
         LineFault::Unended => "no line end in reach; expected at most 79 bytes and then LF",

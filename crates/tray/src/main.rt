@@ -4,11 +4,11 @@
 mod faults;
 mod options;
 
+use console::arguments::read_args;
 use console::streams::{Failed, print_all, read_input, status, stop};
 use faults::Fault;
-use options::{Word, word_of};
+use options::{Flag, options};
 use sheet::running::run_sheet;
-use std::env;
 use std::process::ExitCode;
 
 const USAGE: &str = "\
@@ -45,64 +45,18 @@ example:
   4,reply,501122334400000000000041410c
 ";
 
-// What the command line asks for.
-#[derive(Drop)]
-struct Asked {
-    help: bool,
-    input: Option<String>,
-}
-
 const NAME: &str = "tray";
 
-fn read_args(rt: &HostRuntime) -> Result<Asked, Failed> {
-    let mut asked = Asked {
-        help: false,
-        input: None,
-    };
-    let args = match env::args(rt) {
-        Ok(args) => args,
-        Err(e) => return Err(stop(rt, NAME, format_args!("cannot read the arguments: {e}"))),
-    };
-    for word in args.skip(1) {
-        match word_of(word.as_str()) {
-            Word::Help => asked.help = true,
-            Word::Unknown => {
-                return Err(stop(
-                    rt,
-                    NAME,
-                    format_args!("unknown option {word}; tray --help says what there is"),
-                ));
-            }
-            Word::Input => {
-                if asked.input.is_some() {
-                    return Err(stop(
-                        rt,
-                        NAME,
-                        format_args!("one FILE at a time, and {word} is the second"),
-                    ));
-                }
-                asked.input = Some(word);
-            }
-        }
-    }
-    Ok(asked)
-}
-
 fn run(rt: &HostRuntime) -> Result<(), Failed> {
-    let asked = read_args(rt)?;
-    if asked.help {
+    let asked = read_args(rt, NAME, &options())?;
+    if asked.options.contains(&Flag::Help) {
         return print_all(rt, NAME, USAGE.as_bytes());
     }
     let sheet = read_input(rt, NAME, &asked.input)?;
-    let ran = match run_sheet(rt.alloc(), sheet.as_slice()) {
-        Ok(ran) => ran,
-        Err(e) => return Err(stop(rt, NAME, e)),
-    };
+    let ran = run_sheet(rt.alloc(), sheet.as_slice()).map_err(|e| stop(rt, NAME, e))?;
     print_all(rt, NAME, ran.text.as_bytes())?;
-    match ran.fault {
-        Some(fault) => Err(stop(rt, NAME, Fault(fault))),
-        None => Ok(()),
-    }
+    ran.fault
+        .map_or(Ok(()), |fault| Err(stop(rt, NAME, Fault(fault))))
 }
 
 fn main(rt: HostRuntime) -> ExitCode {

@@ -1,6 +1,5 @@
 // How the check bytes of a worked example are judged.
 ghost use Rattle.std.specs.Prelude.{◌≡◌, IfOk, Some};
-ghost use Rattle.std.specs.Str.{bytes_eq};
 ghost use Rattle.std.specs.Fmt.{WritesOnOk};
 ghost use Rattle.vectors.specs.Judges.{flipped, verdict_of, other_words, verdict_words};
 
@@ -9,7 +8,7 @@ use std::alloc::{AllocError, Global};
 use std::fmt;
 use typeb::crc::{check_bytes, is_sound, seal};
 
-#[derive(Clone, Copy)]
+#[derive(Clone, Copy, PartialEq, Eq, Debug)]
 pub enum Verdict {
     Agrees,
     // The check bytes are others, these.
@@ -41,19 +40,12 @@ fn put_other<W: fmt::Write>(f: &mut fmt::Formatter<W>, got: [u8; 2]) -> fmt::Res
     write!(f, "wrong: got {got}")
 }
 
-// Two pairs of check bytes are equal.
-fn same_pair(a: [u8; 2], b: [u8; 2]) -> bool
-    ensures { result ≡ bytes_eq a b }
-{
-    a == b
-}
-
 // Flips the lowest bit of the first byte.
 pub fn flip_bit(frame: &mut Vec<u8>)
     ensures { frame.new.items ≡ flipped frame.old.items }
 {
-    if !frame.is_empty() {
-        frame[0] ^= 1;
+    if let Some(first) = frame.first_mut() {
+        *first ^= 1;
     }
 }
 
@@ -62,7 +54,7 @@ pub fn judge(heap: Global, body: &[u8], check: [u8; 2]) -> Result<Verdict, Alloc
     ensures { IfOk result (λ v. v ≡ verdict_of body.now check) }
 {
     let got = check_bytes(body);
-    if !same_pair(got, check) {
+    if got != check {
         return Ok(Verdict::Differs(got));
     }
     let mut frame = Vec::from_slice(heap, body)?;

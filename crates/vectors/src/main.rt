@@ -3,6 +3,7 @@
 
 mod judging;
 
+use console::streams::{Failed, status};
 use hex_pairs::Hex;
 use judging::{Verdict, judge};
 use std::io;
@@ -28,11 +29,11 @@ const EXAMPLES: [(&[u8], [u8; 2]); 9] = [
 
 fn run(rt: &HostRuntime) -> io::Result<()> {
     let total = EXAMPLES.len();
-    let mut agree = 0usize;
+    let mut agree = 0;
     for (body, check) in EXAMPLES {
         let verdict = judge(rt.alloc(), body, check)?;
-        if let Verdict::Agrees = verdict {
-            agree = agree.saturating_add(1);
+        if verdict == Verdict::Agrees {
+            agree += 1;
         }
         let frame = Hex(body);
         let given = Hex(&check);
@@ -48,8 +49,5 @@ fn run(rt: &HostRuntime) -> io::Result<()> {
 
 // The program stops with status 1 where an example disagrees.
 fn main(rt: HostRuntime) -> ExitCode {
-    match run(&rt) {
-        Ok(()) => ExitCode::SUCCESS,
-        Err(_) => ExitCode::FAILURE,
-    }
+    status(run(&rt).map_err(|_| Failed))
 }

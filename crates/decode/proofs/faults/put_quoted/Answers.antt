@@ -1,8 +1,5 @@
-use Rattle.std.proofs.Common.{refl, ap, arith}
-use Rattle.std.specs.List.{flat_map}
-use Rattle.std.proofs.lemmas.List.{take_all}
+use Rattle.std.proofs.Common.{refl, arith}
 use Rattle.std.proofs.Output.{has_written_of_eq, has_written_append}
-use Rattle.decode.specs.Faults.{quoted_byte}
 use Rattle.decode.proofs.Quotes.{quoted_more}
 use Rattle.decode.proofs.faults.put_quoted.Goals as goal
 
@@ -13,9 +10,3 @@ loop-c-preserved g c = λ plain.
     has_written_of_eq g.W.Write.write_str_gives _ _ _ _
     (quoted_more c.args.text.now c.loop-c.c-index (omega arith))
     (has_written_append g.W.Write.write_str_gives _ _ _ _ _ before put)
-
-pub returns : goal.returns
-returns g c = λ plain ok.
-    has_written_of_eq g.W.Write.write_str_gives _ _ _ _
-    (ap (flat_map quoted_byte) (take_all c.loop-c.c-index c.args.text.now (omega arith)))
-    (c.loop-c.invariant plain)

@@ -1,43 +1,22 @@
-use Rattle.std.proofs.Common.{replicate, refl}
-use Rattle.refusals.specs.Numbers.{number}
-use Rattle.reader.specs.Commands.{asked_of}
-use Rattle.tray_core.specs.Views.{model_of}
-use Rattle.scenario.proofs.Spoken.{in_range_lem, out_of_range, made_fits, made_frame, hears_after, leaves_after, writes_after, hears_nothing, leaves_all, writes_nothing}
+use Rattle.std.proofs.Common.{◌≡◌, Err, refl, rules}
+use Rattle.reader.specs.Commands.{asked_of, in_range, frame_for}
+use Rattle.scenario.specs.Speaks.{hearing_in}
+use Rattle.scenario.proofs.Spoken.{made_at, refused_at}
 use Rattle.scenario.proofs.speaking.say_into.Goals as goal
 
-pub front_of-requires : goal.front_of-requires
-front_of-requires g c =
-    let made = c.in-Ok.ensures in
-    made_fits (asked_of c.args.command) (replicate 16 0) refl c.in-Ok.len made.result c.make.new.buffer made.buffer
-
-pub returns-in-Ok : goal.returns-in-Ok
-returns-in-Ok g c =
-    let made = c.in-Ok.ensures in
-    let same = made_frame (asked_of c.args.command) (replicate 16 0) refl c.in-Ok.len made.result c.make.new.buffer made.buffer _ c.front_of.ensures in
-    let fits = in_range_lem (asked_of c.args.command) (replicate 16 0) refl c.in-Ok.len made.result in
+pub returns : goal.returns
+returns g c =
+    let made = c.in_ok-len.ensures in
+    let said = made_at (in_range (asked_of c.args.command)) (frame_for (asked_of c.args.command)) _ _ _ made.result made.buffer in
+    let h = c.hear_frame.ensures in
     record {
-      hears =
-          hears_after g.F.Kind.acts g.B.Kind.acts (model_of g.F.Kind.means g.B.Kind.means c.args.tray.now) c.args.buffer.now
-          _ (asked_of c.args.command) same fits _ c.hear_frame.ensures.hears;
-      leaves =
-          leaves_after g.F.Kind.acts g.B.Kind.acts (model_of g.F.Kind.means g.B.Kind.means c.args.tray.now) c.args.buffer.now
-          _ (asked_of c.args.command) same fits _ c.hear_frame.ensures.leaves;
-      writes =
-          writes_after g.F.Kind.acts g.B.Kind.acts (model_of g.F.Kind.means g.B.Kind.means c.args.tray.now) c.args.buffer.now
-          _ (asked_of c.args.command) same fits _ c.hear_frame.ensures.writes;
+      hears = rw (said.0, ← said.2) h.hears;
+      leaves = rw (said.0, ← said.2) h.leaves;
+      writes = rw (said.0, ← said.2) h.writes;
     }
 
-pub returns-in-Err : goal.returns-in-Err
-returns-in-Err g c =
-    let out = out_of_range (asked_of c.args.command) (replicate 16 0) refl (number c.in-Err.why) c.in-Err.ensures.result in
-    record {
-      hears =
-          hears_nothing g.F.Kind.acts g.B.Kind.acts (model_of g.F.Kind.means g.B.Kind.means c.args.tray.now) c.args.buffer.now
-          (asked_of c.args.command) out.0 (number c.in-Err.why) out.1;
-      leaves =
-          leaves_all g.F.Kind.acts g.B.Kind.acts (model_of g.F.Kind.means g.B.Kind.means c.args.tray.now) c.args.buffer.now
-          (asked_of c.args.command) out.0;
-      writes =
-          writes_nothing g.F.Kind.acts g.B.Kind.acts (model_of g.F.Kind.means g.B.Kind.means c.args.tray.now) c.args.buffer.now
-          (asked_of c.args.command) out.0;
-    }
+pub returns-in_err-len : goal.returns-in_err-len
+returns-in_err-len g c =
+    let out = refused_at (in_range (asked_of c.args.command)) _ _ c.in_err-len.ensures.result in
+    let kept : hearing_in c.from_residual.result ≡ Err 8 = search (rules, out.1) in
+    rw out.0 (record { hears = kept; leaves = refl; writes = refl })
