@@ -18,7 +18,7 @@ const SHEET_MOST: usize = 65536;
 const LINE_MOST: usize = 79;
 
 impl SheetFault {
-    // The line that the run stopped at, from 1; 0 for the sheet as a whole.
+    // The line that the run stopped at, from 1; 0 for the sheet as a whole, as it is printed, so it is no Option.
     pub fn line(self) -> usize
         ensures { result ≡ (refused_by self).line }
     {

@@ -14,6 +14,7 @@ pub enum Stop {
     Memory(AllocError),
 }
 
+// Written out, as those of LineFault: a derived `From` has no `from_gives`, which the clauses of callers read.
 impl From<LineFault> for Stop {
     ghost from_gives = { λ e r. r ≡ Fault e };
 

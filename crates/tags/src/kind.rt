@@ -6,7 +6,8 @@ ghost use Rattle.tags.specs.Kinds.{Meaning, Behaviour, Duties, Told};
 use typeb::received::Received;
 
 // What hearing a frame answers: the length of the reply in the lent buffer, and whether a check was accepted. Two answers
-// of every kind, not a value with a flag: a reply of any length may come with either.
+// of every kind, not a value with a flag: a reply of any length may come with either. The bytes lie in the buffer that the
+// caller lends, since there is no heap here.
 #[derive(Clone, Copy)]
 pub struct Hearing {
     pub len: usize,
@@ -31,7 +32,8 @@ pub trait Kind: Copy {
     fn lose_power(&mut self)
         ensures { means self.new ≡ acts.loses (means self.old) };
 
-    // Hears a frame, in place. The reply, of 0 to 16 bytes, goes to the front of the lent buffer.
+    // Hears a frame, in place. The reply, of 0 to 16 bytes, goes to the front of the lent buffer. Every kind hears raw bytes, so
+    // this stays beside the next.
     fn hear(&mut self, frame: &[u8], reply: &mut [u8; 16]) -> Hearing
         ensures { Told (acts.hears frame.now (means self.old)) (means self.new) reply.old reply.new result.len result.accepted };
 

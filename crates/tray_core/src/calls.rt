@@ -41,7 +41,7 @@ pub enum Answer {
     Done,
     // no tag answered
     Silent,
-    // one tag answered: the length of its reply in the buffer, which the caller lends, as the list
+    // one tag answered: the length of its reply in the buffer: the caller lends it, as the list, since there is no heap here
     Reply(usize),
     // so many tags answered at once
     Clash(usize),

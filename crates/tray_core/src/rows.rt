@@ -44,7 +44,7 @@ impl<K: Kind> Row<K> {
     }
 
     // The tags on the tray gain power, or lose it. The flag is the field as it becomes, and the definitions take it too, so a
-    // closure for the step would be no plainer. By place, since nothing is known of what is written through a zip.
+    // closure for the step would be no plainer. The flag is read by its number, since nothing is known of what is written through a zip.
     pub(crate) fn power(&mut self, on: bool)
         ensures { row_of K.means self.new ≡ row_powers K.acts on (row_of K.means self.old) }
     {
