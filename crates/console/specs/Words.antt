@@ -1,5 +1,5 @@
 -- Words of a command line.
-use Rattle.std.specs.Prelude.{ℕ, Bool, cond, ◌&&◌, List, [], ◌∷◌, length, map, codes, ◌==◌, nat_lt, slice_index}
+use Rattle.std.specs.Prelude.{◌≡◌, ℕ, Bool, cond, ◌&&◌, List, [], ◌∷◌, length, map, codes, ◌==◌, nat_lt, slice_index}
 use Rattle.std.specs.Borrow.{Bor}
 use Rattle.std.specs.Str.{bytes_eq}
 use Rattle.console.specs.declared.words.Word.{Word}
@@ -17,3 +17,7 @@ word_of (option ∷ options) word = cond (bytes_eq word option.0) (Known option.
 -- The options of a table, each with its name.
 abbrev pub names_of : {T : Type 0} → List (Bor (List ℕ) × T) → List (List ℕ × T)
 names_of options = map (λ option. (option.0.now, option.1)) options
+
+-- By this table each word means what it should.
+abbrev pub MeansAs : {T : Type 0} → (List ℕ → Word T) → List (Bor (List ℕ) × T) → Type 0
+MeansAs means options = (word : List ℕ) → word_of (names_of options) word ≡ means word

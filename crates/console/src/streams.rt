@@ -8,7 +8,6 @@ use std::process::ExitCode;
 use std::{fs, io};
 
 // The program stops with status 1, and has said why.
-#[derive(Drop)]
 pub struct Failed;
 
 // Says on standard error why the program with this name stops. Here and below the runtime comes first, as in std, and the
@@ -22,10 +21,9 @@ pub fn stop(rt: &HostRuntime, program: &str, why: impl Display + Drop) -> Failed
 pub fn status(ended: Result<(), Failed>) -> ExitCode
     ensures { exit_status result ≡ (if is_ok ended then 0 else 1) }
 {
-    if ended.is_ok() {
-        ExitCode::SUCCESS
-    } else {
-        ExitCode::FAILURE
+    match ended {
+        Ok(()) => ExitCode::SUCCESS,
+        Err(Failed) => ExitCode::FAILURE,
     }
 }
 

@@ -1,5 +1,6 @@
 // The options of the command line.
-ghost use Rattle.decode.specs.Options.{MeansAs};
+ghost use Rattle.console.specs.Words.{MeansAs};
+ghost use Rattle.decode.specs.Options.{word_of};
 
 #[derive(Clone, Copy, PartialEq, Eq, Debug)]
 pub enum Flag {
@@ -9,7 +10,7 @@ pub enum Flag {
 
 // The options and their names.
 pub fn options() -> [(&'static str, Flag); 2]
-    ensures { MeansAs result }
+    ensures { MeansAs word_of result }
 {
     [("--seal", Flag::Seal), ("--help", Flag::Help)]
 }

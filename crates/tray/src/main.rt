@@ -55,8 +55,10 @@ fn run(rt: &HostRuntime) -> Result<(), Failed> {
     let sheet = read_input(rt, NAME, &asked.input)?;
     let ran = run_sheet(rt.alloc(), sheet.as_slice()).map_err(|e| stop(rt, NAME, e))?;
     print_all(rt, NAME, ran.text.as_bytes())?;
-    ran.fault
-        .map_or(Ok(()), |fault| Err(stop(rt, NAME, Fault(fault))))
+    match ran.fault {
+        Some(fault) => Err(stop(rt, NAME, Fault(fault))),
+        None => Ok(()),
+    }
 }
 
 fn main(rt: HostRuntime) -> ExitCode {

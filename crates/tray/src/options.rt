@@ -1,5 +1,6 @@
 // The options of the command line.
-ghost use Rattle.tray.specs.Options.{MeansAs};
+ghost use Rattle.console.specs.Words.{MeansAs};
+ghost use Rattle.tray.specs.Options.{word_of};
 
 #[derive(Clone, Copy, PartialEq, Eq, Debug)]
 pub enum Flag {
@@ -8,7 +9,7 @@ pub enum Flag {
 
 // The options and their names.
 pub fn options() -> [(&'static str, Flag); 1]
-    ensures { MeansAs result }
+    ensures { MeansAs word_of result }
 {
     [("--help", Flag::Help)]
 }
