@@ -113,6 +113,7 @@ impl Link {
     }
 
     // Hears for a tag whose memory begins with serial number and application data.
+    #[inline(always)]
     pub(crate) fn hear_for(&mut self, told: Frame<'_>, memory: &[u8]) -> Option<Said>
         requires { 16 ≤ length memory.now }
         ensures after { self.new ≡ (link_hears (serial_in memory.now) (application_in memory.now) (frame_of told.entry) self.old).after }
@@ -122,6 +123,7 @@ impl Link {
     }
 
     // Hears a request, a slot marker, ATTRIB or HLTB, for a tag with this serial number and application data.
+    #[inline(always)]
     pub fn hear(&mut self, told: Frame<'_>, own: Serial, application: [u8; 4]) -> Option<Said>
         ensures after { self.new ≡ (link_hears own application (frame_of told.entry) self.old).after }
         ensures says { saying_of result ≡ (link_hears own application (frame_of told.entry) self.old).says }

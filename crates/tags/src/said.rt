@@ -142,6 +142,7 @@ fn put_status(echo: Option<Echo>, status: u8, reply: &mut [u8; 16]) -> usize
 }
 
 // What is said, behind what is repeated of the frame.
+#[inline(never)]
 fn put_said(echo: Option<Echo>, said: Said, reply: &mut [u8; 16]) -> usize
     ensures { Placed (sealed (said_body (repeated echo) (page_repeated echo) (says_of said))) reply.old reply.new result }
 {
@@ -157,7 +158,9 @@ fn put_said(echo: Option<Echo>, said: Said, reply: &mut [u8; 16]) -> usize
     }
 }
 
-// The reply to a frame, at the front of the buffer; nothing where nothing is said. Answers the length.
+// The reply to a frame, at the front of the buffer; nothing where nothing is said, which is for most tags most of the time.
+// Answers the length.
+#[inline(always)]
 pub fn put_reply(told: Frame<'_>, said: Option<Said>, reply: &mut [u8; 16]) -> usize
     ensures { Placed (reply_bytes (frame_of told.entry) (saying_of said)) reply.old reply.new result }
 {

@@ -1,4 +1,4 @@
-// A row's tags, one after another: each tag on the tray is copied out, told, and stored back.
+// A row's tags, one after another: each tag on the tray is told in place.
 ghost use Rattle.std.specs.Prelude.{◌≡◌, ℕ, ◌+◌, ◌<◌, ◌≤◌, map, length, vec_len};
 ghost use Rattle.typeb.specs.Receives.{on_air};
 ghost use Rattle.tray_core.specs.Rows.{powers, row_powers, row_hears, row_sounds, change_at, moved};
@@ -50,9 +50,7 @@ impl<K: Kind> Row<K> {
     {
         for (i, tag) in self.tags.iter_mut().enumerate() {
             if self.present[i] {
-                let mut told = *tag;
-                power_tag(&mut told, on);
-                *tag = told;
+                power_tag(tag, on);
             }
         }
     }
@@ -69,9 +67,7 @@ impl<K: Kind> Row<K> {
         let mut heard = before;
         for (i, tag) in self.tags.iter_mut().enumerate() {
             if self.present[i] {
-                let mut told = *tag;
-                tell_tag(&mut told, frame, &mut heard);
-                *tag = told;
+                tell_tag(tag, frame, &mut heard);
             }
         }
         heard
