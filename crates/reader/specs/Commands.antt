@@ -1,7 +1,6 @@
 -- The commands of a reader, and the frames that carry them.
 use Rattle.std.specs.Prelude.{ℕ, ◌+◌, ◌-◌, ◌*◌, Bool, true, cond, ◌&&◌, ◌||◌, List, [], ◌∷◌, ◌++◌, length, drop, replicate, Ok, Err, Result, ◌==◌, nat_le}
-use Rattle.refusals.specs.declared.Refusal.{Refusal}
-use Rattle.refusals.specs.Numbers.{number, asked}
+use Rattle.refusals.specs.Numbers.{asked}
 use Rattle.typeb.specs.CheckBytes.{sealed}
 use Rattle.typeb.specs.declared.frames.Slots.{Slots}
 use Rattle.typeb.specs.declared.frames.Slots.TheVariants.{One, Two, Four, Eight, Sixteen}
@@ -94,10 +93,6 @@ buffer_for command buffer =
     cond (nat_le 16 (length buffer) && in_range command)
     (frame_for command ++ drop (length (frame_for command)) buffer)
     buffer
-
-abbrev pub outcome : {A : Type 0} → Result A Refusal → Result A ℕ
-outcome (Ok a) = Ok a
-outcome (Err why) = Err (number why)
 
 -- What a tag hears in the frame of a command.
 abbrev pub slots_for : ℕ → Slots

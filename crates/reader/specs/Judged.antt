@@ -2,7 +2,7 @@
 use Rattle.std.specs.Prelude.{ℕ, ◌%◌, Bool, true, false, cond, ◌&&◌, ◌||◌, List, length, take, drop, Ok, Err, Result, ◌==◌, slice_index}
 use Rattle.std.specs.Borrow.{Bor}
 use Rattle.refusals.specs.declared.Refusal.{Refusal}
-use Rattle.refusals.specs.Numbers.{number, asked}
+use Rattle.refusals.specs.Numbers.{outcome, asked}
 use Rattle.typeb.specs.CheckBytes.{sound, body_of}
 use Rattle.typeb.specs.declared.frames.Op.TheVariants as op
 use Rattle.typeb.specs.Hears.{head_of}
@@ -17,8 +17,7 @@ sound_body fits bytes = asked fits 9 (asked (sound bytes) 10 (Ok (body_of bytes)
 
 -- A body in hand, as a list.
 abbrev pub body_in : Result (Bor (List ℕ)) Refusal → Result (List ℕ) ℕ
-body_in (Ok body) = Ok body.now
-body_in (Err why) = Err (number why)
+body_in r = outcome (λ body. body.now) r
 
 abbrev pub then : {A B : Type 0} → Result A ℕ → (A → Result B ℕ) → Result B ℕ
 then (Ok a) next = next a
@@ -89,5 +88,4 @@ said_in reply.Acknowledged = Acknowledged
 said_in (reply.Refused code) = Refused code
 
 abbrev pub judgement : Result Reply Refusal → Result Says ℕ
-judgement (Ok r) = Ok (said_in r)
-judgement (Err why) = Err (number why)
+judgement r = outcome said_in r

@@ -3,7 +3,8 @@ ghost use Rattle.std.specs.Prelude.{◌≡◌, ◌+◌, ◌-◌, ◌≤◌, true
 ghost use Rattle.typeb.specs.CheckBytes.{SealedInto};
 ghost use Rattle.typeb.specs.Hears.{head_of};
 ghost use Rattle.reader.specs.Commands.{Attrib, Halt};
-ghost use Rattle.reader.specs.Commands.{asked_of, is_slots, in_range, slot_code, body_for, made_for, buffer_for, outcome};
+ghost use Rattle.refusals.specs.Numbers.{numbered};
+ghost use Rattle.reader.specs.Commands.{asked_of, is_slots, in_range, slot_code, body_for, made_for, buffer_for};
 ghost use Rattle.reader.specs.Laws.{ReadsBack, IdleIsZero, NamesAll};
 
 use crate::commands::Command;
@@ -124,7 +125,7 @@ fn put_command(command: Command<'_>, buffer: &mut [u8]) -> Option<usize>
 // Asked in this order: a buffer of 16 bytes or more; every value in range. A refusal leaves the buffer as it was.
 #[tactic(auto, using(crate::proofs::Makes::reads_back, crate::proofs::Ranges::idle_is_zero, crate::proofs::Ranges::names_all))]
 pub fn make(command: Command<'_>, buffer: &mut [u8]) -> Result<usize, Refusal>
-    ensures result { outcome result ≡ made_for (asked_of command.entry) buffer.old }
+    ensures result { numbered result ≡ made_for (asked_of command.entry) buffer.old }
     ensures buffer { buffer.new ≡ buffer_for (asked_of command.entry) buffer.old }
     ensures reads_back { ReadsBack }
     ensures idle { IdleIsZero }

@@ -1,5 +1,5 @@
 -- The fixed number of every refusal.
-use Rattle.std.specs.Prelude.{ℕ, Bool, cond, Err, Result}
+use Rattle.std.specs.Prelude.{ℕ, Bool, cond, Ok, Err, Result}
 use Rattle.refusals.specs.declared.Refusal.{Refusal}
 use Rattle.refusals.specs.declared.Refusal.TheVariants as is
 
@@ -22,6 +22,15 @@ number is.FieldCount = 15
 number is.FieldForm = 16
 number is.TagAfterCall = 17
 number is.NoSuchPage = 18
+
+-- What a call came to: what its value means, or the number of its refusal.
+abbrev pub outcome : {T M : Type 0} → (T → M) → Result T Refusal → Result M ℕ
+outcome means (Ok value) = Ok (means value)
+outcome means (Err why) = Err (number why)
+
+-- The value itself, or the number.
+abbrev pub numbered : {A : Type 0} → Result A Refusal → Result A ℕ
+numbered r = outcome (λ value. value) r
 
 -- A question before work: where the answer is no, its number is the outcome.
 abbrev pub asked : {A : Type 0} → Bool → ℕ → Result A ℕ → Result A ℕ

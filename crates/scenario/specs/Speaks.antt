@@ -1,7 +1,7 @@
 -- What a reader hears after a command, from what sounds on the air.
 use Rattle.std.specs.Prelude.{ℕ, cond, List, [], take, Some, None, Ok, Err, Option, Result}
 use Rattle.refusals.specs.declared.Refusal.{Refusal}
-use Rattle.refusals.specs.Numbers.{number}
+use Rattle.refusals.specs.Numbers.{outcome}
 use Rattle.tags.specs.Kinds.{Behaviour}
 use Rattle.tags.specs.Says.{Says}
 use Rattle.reader.specs.Commands.{Asked, in_range, frame_for}
@@ -27,8 +27,7 @@ hearing_of (heard.Clash n) = Clash n
 hearing_of (heard.Said reply) = Said (said_in reply)
 
 abbrev pub hearing_in : Result Heard Refusal → Result Hearing ℕ
-hearing_in (Ok h) = Ok (hearing_of h)
-hearing_in (Err why) = Err (number why)
+hearing_in r = outcome hearing_of r
 
 -- A reply is judged by its command.
 abbrev pub said : Result Says ℕ → Result Hearing ℕ

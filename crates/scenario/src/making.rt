@@ -1,6 +1,9 @@
 // The tags of the story.
 ghost use Rattle.std.specs.Prelude.{◌≡◌, ◌++◌, replicate};
-ghost use Rattle.tags.specs.Making.{pump_made, pump_outcome, gauge_made, gauge_outcome};
+ghost use Rattle.refusals.specs.Numbers.{outcome};
+ghost use Rattle.tags.specs.Gauge.{gauge_means};
+ghost use Rattle.tags.specs.Making.{pump_made, gauge_made};
+ghost use Rattle.tags.specs.Pump.{pump_means};
 ghost use Rattle.scenario.specs.Images.{pump_image, gauge_image};
 
 use refusals::Refusal;
@@ -45,13 +48,13 @@ fn gauge_image(serial: Serial) -> [u8; 16]
 
 // Each kind has its own image, and makes its tags itself: a trait over both would be longer than the two functions.
 pub fn pump_tag(serial: Serial, draw: u16) -> Result<PumpTag, Refusal>
-    ensures { pump_outcome result ≡ pump_made (pump_image serial) draw }
+    ensures { outcome pump_means result ≡ pump_made (pump_image serial) draw }
 {
     PumpTag::from_image(&pump_image(serial), draw)
 }
 
 pub fn gauge_tag(serial: Serial, draw: u16) -> Result<GaugeTag, Refusal>
-    ensures { gauge_outcome result ≡ gauge_made (gauge_image serial) draw }
+    ensures { outcome gauge_means result ≡ gauge_made (gauge_image serial) draw }
 {
     GaugeTag::from_image(&gauge_image(serial), draw)
 }

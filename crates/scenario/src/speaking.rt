@@ -1,7 +1,8 @@
 // Speaking to a tray: commands, and judged replies, in place of bytes.
 ghost use Rattle.std.specs.Prelude.{◌≡◌, ◌≤◌, [], length, replicate, Ok};
+ghost use Rattle.refusals.specs.Numbers.{numbered};
 ghost use Rattle.reader.specs.Commands.{asked_of};
-ghost use Rattle.tray_core.specs.Step.{Frame, Stock, asks_of, numbered, step};
+ghost use Rattle.tray_core.specs.Step.{Frame, Stock, asks_of, step};
 ghost use Rattle.tray_core.specs.Views.{model_of};
 ghost use Rattle.scenario.specs.Speaks.{hearing_after, hearing_back, hearing_in, reply_size, taken, tray_after, buffer_after};
 

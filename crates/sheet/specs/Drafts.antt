@@ -1,7 +1,5 @@
 -- Tags as a sheet names them, and their pages set.
 use Rattle.std.specs.Prelude.{ℕ, zero, suc, cond, List, [], ◌∷◌, replicate, Ok, Err, Result, nat_lt}
-use Rattle.refusals.specs.declared.Refusal.{Refusal}
-use Rattle.refusals.specs.Numbers.{number}
 use Rattle.tags.specs.Gauge.{GaugeMeaning, gauge_means}
 use Rattle.tags.specs.Making.{new_pump, pump_made, new_gauge, gauge_made}
 use Rattle.tags.specs.Pages.{put_page}
@@ -66,10 +64,6 @@ abbrev pub back_paged : ℕ → ℕ → List ℕ → List (Draft GaugeMeaning) �
 back_paged n page bytes drafts = row_paged gauge_made 2 n page bytes drafts
 
 -- What the values of the code stand for, by what a tag of the kind means.
-abbrev pub outcome : {T M : Type 0} → (T → M) → Result T Refusal → Result M ℕ
-outcome means (Ok tag) = Ok (means tag)
-outcome means (Err why) = Err (number why)
-
 module _ {T M : Type 0} {N : ℕ} (means : T → M) where
   abbrev pub draft_of : coded.Draft T N → Draft M
   draft_of d = record { image = d.image; draw = d.draw; tag = means d.tag }

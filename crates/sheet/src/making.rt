@@ -1,6 +1,6 @@
 // Kinds of tag that are made of an image and a draw number.
 ghost use Rattle.std.specs.Prelude.{◌≡◌, ℕ, List, Result, replicate};
-ghost use Rattle.sheet.specs.Drafts.{outcome};
+ghost use Rattle.refusals.specs.Numbers.{outcome};
 ghost use Rattle.tags.specs.Gauge.{GaugeMeaning, gauge_means};
 ghost use Rattle.tags.specs.Making.{new_pump, pump_made, new_gauge, gauge_made};
 ghost use Rattle.tags.specs.Pump.{PumpMeaning, pump_means};

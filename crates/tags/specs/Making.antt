@@ -1,14 +1,11 @@
 -- Making a tag from an image: the questions in their order, each with its refusal's number, and the tag just made.
 use Rattle.std.specs.Prelude.{ℕ, false, List, length, take, drop, replicate, Ok, Err, Result, ◌==◌, nat_le}
 use Rattle.std.specs.Str.{bytes_eq}
-use Rattle.refusals.specs.declared.Refusal.{Refusal}
-use Rattle.refusals.specs.Numbers.{number, asked}
-use Rattle.tags.specs.declared.pump.PumpTag.{PumpTag}
-use Rattle.tags.specs.declared.gauge.GaugeTag.{GaugeTag}
+use Rattle.refusals.specs.Numbers.{asked}
 use Rattle.tags.specs.Links.{new_link}
-use Rattle.tags.specs.Gauge.{GaugeMeaning, gauge_means}
+use Rattle.tags.specs.Gauge.{GaugeMeaning}
 use Rattle.tags.specs.Pages.{page_at, unlocked, counter_in}
-use Rattle.tags.specs.Pump.{PumpMeaning, pump_means}
+use Rattle.tags.specs.Pump.{PumpMeaning}
 
 -- A tag just made is off and closed, its card number is 0.
 abbrev pub new_pump : List ℕ → ℕ → PumpMeaning
@@ -23,10 +20,6 @@ pump_made image draw =
     (asked (nat_le (counter_in (page_at 2 image)) 0x8000) 3
     (Ok (new_pump image draw))))
 
-abbrev pub pump_outcome : Result PumpTag Refusal → Result PumpMeaning ℕ
-pump_outcome (Ok tag) = Ok (pump_means tag)
-pump_outcome (Err why) = Err (number why)
-
 -- A gauge: 16 bytes? Bytes 4 to 7 zero?
 abbrev pub new_gauge : List ℕ → ℕ → GaugeMeaning
 new_gauge image draw = record { shown = record { link = new_link draw; pages = image }; hidden = tt; opened = false }
@@ -36,7 +29,3 @@ gauge_made image draw =
     asked (length image == 16) 1
     (asked (bytes_eq (take 4 (drop 4 image)) (replicate 4 0)) 2
     (Ok (new_gauge image draw)))
-
-abbrev pub gauge_outcome : Result GaugeTag Refusal → Result GaugeMeaning ℕ
-gauge_outcome (Ok tag) = Ok (gauge_means tag)
-gauge_outcome (Err why) = Err (number why)

@@ -2,7 +2,8 @@
 ghost use Rattle.std.specs.Prelude.{◌≡◌, ◌%◌, false, replicate, Some};
 ghost use Rattle.tags.specs.Common.{Shown, is_off_tag, reacts_by};
 ghost use Rattle.tags.specs.Gauge.{gauge_means, gauge_acts, gauge_reads, gauge_obeys};
-ghost use Rattle.tags.specs.Making.{new_gauge, gauge_made, gauge_outcome};
+ghost use Rattle.refusals.specs.Numbers.{outcome};
+ghost use Rattle.tags.specs.Making.{new_gauge, gauge_made};
 ghost use Rattle.tags.specs.Reacts.{Reacted};
 ghost use Rattle.tags.specs.Says.{page_said};
 ghost use Rattle.tags.specs.Guarded.{gauge_duties};
@@ -41,7 +42,7 @@ impl GaugeTag {
 
     // A tag just made, with these pages.
     pub fn from_image(image: &[u8], draw: u16) -> Result<GaugeTag, Refusal>
-        ensures { gauge_outcome result ≡ gauge_made image.now draw }
+        ensures { outcome gauge_means result ≡ gauge_made image.now draw }
     {
         let memory = image.as_array::<16>().ok_or(Refusal::ImageLength)?;
         if memory[4..8] != [0u8; 4] {

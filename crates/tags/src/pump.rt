@@ -1,7 +1,8 @@
 // The pump tag, AT88RF020.
 ghost use Rattle.std.specs.Prelude.{◌≡◌, ℕ, ◌%◌, false, List, replicate, Some, is_ok};
 ghost use Rattle.tags.specs.Conduct.{Conduct};
-ghost use Rattle.tags.specs.Making.{new_pump, pump_made, pump_outcome};
+ghost use Rattle.refusals.specs.Numbers.{outcome};
+ghost use Rattle.tags.specs.Making.{new_pump, pump_made};
 ghost use Rattle.tags.specs.Pages.{unlocked, counter_in};
 ghost use Rattle.tags.specs.Common.{Shown, is_off_tag, reacts_by};
 ghost use Rattle.tags.specs.Pump.{pump_means, page_of, with_page, pump_acts, pump_obeys};
@@ -61,7 +62,7 @@ impl PumpTag {
 
     // A tag just made, with these pages.
     pub fn from_image(image: &[u8], draw: u16) -> Result<PumpTag, Refusal>
-        ensures { pump_outcome result ≡ pump_made image.now draw }
+        ensures { outcome pump_means result ≡ pump_made image.now draw }
     {
         let memory = image.as_array::<256>().ok_or(Refusal::ImageLength)?;
         let tag = PumpTag::made(*memory, draw);

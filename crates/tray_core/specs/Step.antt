@@ -2,7 +2,7 @@
 use Rattle.std.specs.Borrow.{Bor}
 use Rattle.std.specs.Prelude.{◌≡◌, ℕ, cond, List, ◌++◌, length, drop, Some, None, Ok, Err, Option, Result, nat_le}
 use Rattle.refusals.specs.declared.Refusal.{Refusal}
-use Rattle.refusals.specs.Numbers.{number}
+use Rattle.refusals.specs.Numbers.{numbered}
 use Rattle.tags.specs.Kinds.{Behaviour}
 use Rattle.tray_core.specs.declared.calls.Answer.{Answer}
 use Rattle.tray_core.specs.declared.calls.Answer.TheVariants as answer
@@ -33,11 +33,6 @@ asks_by bytes call.Stock = Stock
 
 abbrev pub asks_of : Call (Bor (List ℕ)) → Asks
 asks_of c = asks_by (λ frame. frame.now) c
-
--- An answer, or the number of a refusal.
-abbrev pub numbered : Result Answer Refusal → Result Answer ℕ
-numbered (Ok a) = Ok a
-numbered (Err why) = Err (number why)
 
 -- What comes of a call: its answer or its refusal's number, the tray, the buffer and the list.
 pub record Outcome (T : Type 0) : Type 0 where
