@@ -17,6 +17,6 @@ onto true x k xs parts some first = refl
 onto false x k xs [] some first = absurd (omega arith)
 onto false x k xs (part ∷ parts) some first = ap (λ p. x ∷ p) first ∙ ap (λ n. take n (x ∷ xs)) (sym (one-add k))
 
-pub begins_with : (m : ℕ) (xs : List ℕ) → BeginsWith m xs (first_length m xs)
+pub begins_with : (m : ℕ) (xs : List ℕ) → BeginsWith m xs
 begins_with m [] = refl
 begins_with m (x ∷ xs) = onto (x == m) x (first_length m xs) xs (parted m xs) (parts_some m xs) (begins_with m xs)

@@ -19,9 +19,9 @@ pub record Cut (mark : ℕ) (text : List ℕ) : Type 0 where
   pub joined : join_with_byte mark (parted mark text) ≡ text
   pub marks : length (parted mark text) ≡ count_by (λ c. c == mark) text + 1
 
--- The first part is the text's beginning, of this length.
-abbrev pub BeginsWith : ℕ → List ℕ → ℕ → Type 0
-BeginsWith mark text len = field_at 0 (parted mark text) ≡ take len text
+-- The first part is the beginning of the text, as long as is said.
+abbrev pub BeginsWith : ℕ → List ℕ → Type 0
+BeginsWith mark text = field_at 0 (parted mark text) ≡ take (first_length mark text) text
 
 -- A line by its fields: two, one that is empty, and no fourth.
 abbrev pub Worked : Type 0

@@ -5,10 +5,11 @@ ghost use Rattle.std.specs.Prelude.{◌≡◌, ◌≤◌, length};
 ghost use Rattle.parts.specs.Parts.{first_length, parted, field_at, Cut, BeginsWith, Worked};
 
 // How long the first part of a text is.
+#[tactic(auto, using(crate::proofs::Cuts::begins_with))]
 pub fn first_length(mark: u8, text: &[u8]) -> usize
     ensures result { result ≡ first_length mark text.now }
     ensures within { result ≤ length text.now }
-    ensures begins { BeginsWith mark text.now result }
+    ensures begins { BeginsWith mark text.now }
 {
     text.iter().position(|c| *c == mark).unwrap_or(text.len())
 }

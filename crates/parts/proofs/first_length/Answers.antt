@@ -1,4 +1,4 @@
-use Rattle.std.proofs.Common.{◌≡◌, ℕ, ◌≤◌, ◌==◌, cond, length, Some, None, Option, unwrap_or, take, sym, ap, ◌∙◌, rules, arith}
+use Rattle.std.proofs.Common.{◌≡◌, ℕ, ◌≤◌, ◌==◌, cond, length, Some, None, Option, unwrap_or, ap, ◌∙◌, rules, arith}
 use borrow.Author.Tests.{tests}
 use lib.Dec.{ltb}
 use Rattle.std.proofs.lemmas.Bool.Decides.{nat_tests}
@@ -6,7 +6,6 @@ use Rattle.std.proofs.lemmas.Iterator.{YieldsList-from_slice}
 use Rattle.std.proofs.lemmas.Iterator.Search.{position_from_yields_List}
 use Rattle.std.proofs.lemmas.List.Sums.{prefix_len-le-length}
 use Rattle.parts.specs.Parts.{first_length}
-use Rattle.parts.proofs.Cuts.{begins_with}
 use Rattle.parts.proofs.first_length.Goals as goal
 
 -- where there is no mark, the text ends the first part
@@ -19,6 +18,3 @@ returns-clause-result c =
     c.unwrap_or.ensures
     ∙ ap (λ (o : Option ℕ). unwrap_or o (length c.args.text.now)) found
     ∙ whole (first_length c.args.mark c.args.text.now) (length c.args.text.now) (prefix_len-le-length _ c.args.text.now)
-
-pub returns-clause-begins : goal.returns-clause-begins
-returns-clause-begins c = begins_with c.args.mark c.args.text.now ∙ ap (λ n. take n c.args.text.now) (sym (returns-clause-result c))
