@@ -1,5 +1,5 @@
 -- Words of a command line.
-use Rattle.std.specs.Prelude.{◌≡◌, ℕ, Bool, cond, ◌&&◌, List, [], ◌∷◌, length, map, codes, ◌==◌, nat_lt, slice_index}
+use Rattle.std.specs.Prelude.{◌≡◌, ℕ, Bool, true, false, cond, ◌&&◌, List, [], ◌∷◌, length, map, codes, ◌==◌, nat_lt, slice_index}
 use Rattle.std.specs.Borrow.{Bor}
 use Rattle.std.specs.Str.{bytes_eq}
 use Rattle.console.specs.declared.words.Word.{Word}
@@ -8,6 +8,12 @@ use Rattle.console.specs.declared.words.Word.TheVariants.{Known, Unknown, Input}
 -- A word that begins with a dash.
 abbrev pub dashed : List ℕ → Bool
 dashed word = nat_lt 0 (length word) && slice_index word 0 == 45
+
+-- Words that begin with a dash, and words that do not.
+abbrev pub Worked : Type 0
+Worked =
+    map dashed (codes "-" ∷ codes "-x" ∷ codes "--help" ∷ codes "a-b" ∷ codes "+x" ∷ [] ∷ [])
+    ≡ true ∷ true ∷ true ∷ false ∷ false ∷ false ∷ []
 
 -- What a word means where options have these names: an option, or the name of the input. A dash alone is such a name.
 abbrev pub word_of : {T : Type 0} → List (List ℕ × T) → List ℕ → Word T

@@ -3,7 +3,7 @@ ghost use Rattle.std.specs.Prelude.{◌≡◌};
 ghost use Rattle.std.specs.List.{find};
 ghost use Rattle.std.specs.Option.{option_map};
 ghost use Rattle.std.specs.Str.{bytes_eq};
-ghost use Rattle.console.specs.Words.{dashed, word_of, names_of};
+ghost use Rattle.console.specs.Words.{dashed, word_of, names_of, Worked};
 
 // What a word means to a program whose options are values of `T`.
 #[derive(Clone, Copy, PartialEq, Eq, Debug)]
@@ -18,7 +18,8 @@ pub enum Word<T> {
 
 // A word that begins with a dash.
 pub fn is_dashed(word: &str) -> bool
-    ensures { result ≡ dashed word.now }
+    ensures result { result ≡ dashed word.now }
+    ensures worked { Worked }
 {
     word.starts_with('-')
 }

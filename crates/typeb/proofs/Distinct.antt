@@ -21,7 +21,7 @@ part i code = get_or code i []
 abbrev figure : ℕ → List (List ℕ) → ℕ
 figure i code = get_or (part 0 code) i 0
 
-abbrev slots_back : ℕ → Slots
+abbrev pub slots_back : ℕ → Slots
 slots_back n = cond (eqb n 1) One (cond (eqb n 2) Two (cond (eqb n 4) Four (cond (eqb n 8) Eight Sixteen)))
 
 abbrev unflat : List (List ℕ) → Option Heard
@@ -36,7 +36,8 @@ flag_back : (b : Bool) → eqb (cond b 1 0) 1 ≡ b
 flag_back true = refl
 flag_back false = refl
 
-slots_back_lem : (s : Slots) → slots_back (slot_count s) ≡ s
+-- a number of slots is read back from its number
+pub slots_back_lem : (s : Slots) → slots_back (slot_count s) ≡ s
 slots_back_lem One = refl
 slots_back_lem Two = refl
 slots_back_lem Four = refl

@@ -4,3 +4,4 @@ pub mod Residue
 pub mod Buffers
 pub mod Sealed
 pub mod Distinct
+pub mod Exact

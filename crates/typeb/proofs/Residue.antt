@@ -2,12 +2,12 @@
 -- Two bytes enter the register as sixteen zero bits would after an exclusive or with the two bytes.
 -- Zero bits can be taken back, so sixteen of them lead to 0xF0B8 from 0xFFFF alone.
 -- So the register ends at 0xF0B8 exactly when the last two bytes are the complement of the register before them.
-use Rattle.std.proofs.Common.{◌≡◌, ℕ, zero, suc, ◌+◌, ◌-◌, ◌*◌, ◌/◌, ◌%◌, ◌^◌, ◌<◌, ◌≤◌, Bool, true, false, cond, eqb, ltb, List, [], ◌∷◌, ◌++◌, length, fold, sym, refl, ap, ◌∙◌, ap₂, div-one, add-one, one-add, arith, lit<, shr-shr}
+use Rattle.std.proofs.Common.{◌≡◌, ℕ, zero, suc, ◌+◌, ◌-◌, ◌*◌, ◌/◌, ◌%◌, ◌^◌, ◌<◌, ◌≤◌, Bool, true, false, cond, ◌&&◌, eqb, leb, ltb, List, [], ◌∷◌, ◌++◌, length, fold, sym, refl, ap, ◌∙◌, ap₂, div-one, add-one, one-add, arith, lit<, shr-shr}
 use native.Mathlib.Nat.{div-eq_of_lt}
 use lib.Bits.{bit_xor, xor_shr, xor_mod, xor_assoc, xor_comm, xor_self, xor_zero_r, xor_lt, xor_add_and, and_mask}
 use lib.Pow.{field, mod-mod-pow}
 use Rattle.std.specs.Str.{bytes_eq}
-use Rattle.std.proofs.lemmas.Bool.{cond_both, cond-true, cond-false, eq-eqb, eqb-true, eqb-false, lt-ltb, le-ltb, le-leb}
+use Rattle.std.proofs.lemmas.Bool.{cond_both, cond-true, cond-false, eq-eqb, eqb-true, eqb-false, lt-ltb, le-ltb, le-leb, leb-true}
 use Rattle.std.proofs.lemmas.List.{length-append, take-append-drop, take_at, drop_at}
 use Rattle.std.proofs.lemmas.Slice.Eq.{bytes_eq-Decides}
 use Rattle.std.proofs.lemmas.Bool.Decides.{same_from_decides}
@@ -189,14 +189,24 @@ sound_by_tail : (frame : List ℕ) → 3 ≤ length frame → sound frame ≡ by
 unfolding sound
 sound_by_tail frame long = rw (le-leb 3 (length frame) long)
 
+-- Two answers to a question that is asked second need to agree only where the first is answered by yes.
+by_length : (b x y : Bool) → (b ≡ true → x ≡ y) → (b && x) ≡ (b && y)
+by_length true x y same = same refl
+by_length false x y same = refl
+
 -- A frame of three bytes or more is sound exactly when the register ends at 0xF0B8.
-pub residue : (frame : List ℕ) → Bytes frame → 3 ≤ length frame → sound frame ≡ eqb (register frame) 0xF0B8
+residue : (frame : List ℕ) → Bytes frame → 3 ≤ length frame → sound frame ≡ eqb (register frame) 0xF0B8
 residue frame bytes long =
     let last = drop_two frame (omega arith) in
     sound_by_tail frame long
     ∙ ap (λ t. bytes_eq t (check_bytes (body_of frame))) last
     ∙ same_check (body_of frame) _ _ (bytes (length frame - 2) (omega arith)) (bytes (length frame - 1) (omega arith))
     ∙ ap (λ f. eqb (register f) 0xF0B8) (ap (λ t. body_of frame ++ t) (sym last) ∙ take-append-drop (length frame - 2) frame)
+
+-- A frame of any length is sound exactly when it has three bytes or more and the register ends at 0xF0B8.
+pub residue_of_all : (frame : List ℕ) → Bytes frame → sound frame ≡ (leb 3 (length frame) && eqb (register frame) 0xF0B8)
+unfolding sound
+residue_of_all frame bytes = by_length (leb 3 (length frame)) _ _ (λ e. sym (sound_by_tail frame (leb-true 3 (length frame) e)) ∙ residue frame bytes (leb-true 3 (length frame) e))
 
 -- A body that is not empty, with its check bytes behind it, is a sound frame.
 pub sealed_sound : (body : List ℕ) → 1 ≤ length body → sound (sealed body) ≡ true

@@ -50,9 +50,10 @@ sound frame = nat_le 3 (length frame) && bytes_eq (tail_of frame) (check_bytes (
 abbrev pub Bytes : List ℕ → Type 0
 Bytes xs = (i : ℕ) → i < length xs → slice_index xs i < 256
 
--- The receiver's rule: it lets the register run over the whole frame, check bytes included, and looks for 0xF0B8.
+-- The receiver's rule: of three bytes or more, it lets the register run over the whole frame, check bytes included, and
+-- looks for 0xF0B8.
 abbrev pub EndsAtResidue : List ℕ → Bool → Type 0
-EndsAtResidue frame answer = 3 ≤ length frame → answer ≡ (register frame == 0xF0B8)
+EndsAtResidue frame answer = answer ≡ (nat_le 3 (length frame) && register frame == 0xF0B8)
 
 -- Sealing makes a sound frame of every body that is not empty.
 abbrev pub SealedIsSound : List ℕ → Type 0

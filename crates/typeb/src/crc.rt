@@ -29,7 +29,8 @@ pub fn check_bytes(body: &[u8]) -> [u8; 2]
 }
 
 // A frame is sound when it has three bytes or more and its last two are the check bytes of the rest.
-// Of such a frame the register, run over all of its bytes, ends at 0xF0B8, and of no other: clause `residue`.
+// Of such a frame the register, run over all of its bytes, ends at 0xF0B8, and of no other of three bytes or more: clause
+// `residue`.
 #[tactic(auto, unfolding(crate::specs::CheckBytes::sound))]
 pub fn is_sound(frame: &[u8]) -> bool
     ensures result { result ≡ sound frame.now }

@@ -1,6 +1,7 @@
 // The reading of a frame.
 ghost use Rattle.std.specs.Prelude.{◌≡◌};
 ghost use Rattle.typeb.specs.Hears.{in_body, heard, reading_of};
+ghost use Rattle.typeb.specs.Carries.{HearsExactly};
 
 use crate::crc::is_sound;
 use crate::frames::{Frame, Op, Slots};
@@ -45,9 +46,11 @@ fn read_body(body: &[u8]) -> Option<Frame<'_>>
 }
 
 // What a tag hears in a frame; none where the frame is not heard.
-#[tactic(auto, unfolding(crate::specs::Hears::heard, crate::specs::CheckBytes::sound))]
+// It is exactly what the frame carries, as its sender put it together: clause `exact`.
+#[tactic(auto, unfolding(crate::specs::Hears::heard, crate::specs::CheckBytes::sound), using(crate::proofs::Exact::hears_exactly))]
 pub fn read_frame(frame: &[u8]) -> Option<Frame<'_>>
-    ensures { reading_of result ≡ heard frame.now }
+    ensures result { reading_of result ≡ heard frame.now }
+    ensures exact { HearsExactly frame.now }
 {
     match frame {
         [body @ .., _, _] if is_sound(frame) => read_body(body),

@@ -3,7 +3,7 @@ use Rattle.std.proofs.lemmas.Bool.Decides.{nat_tests}
 use Rattle.std.specs.Str.{bytes_eq}
 use Rattle.typeb.specs.CheckBytes.{sound}
 use Rattle.typeb.proofs.Parts.{drop_two}
-use Rattle.typeb.proofs.Residue.{residue}
+use Rattle.typeb.proofs.Residue.{residue_of_all}
 use Rattle.typeb.proofs.crc.is_sound.Goals as goal
 
 pub returns-in-len2-up-clause-result : goal.returns-in-len2-up-clause-result
@@ -16,4 +16,4 @@ returns-in-len2-up-clause-result c =
     simp three (c.eq.ensures ∙ ap₂ bytes_eq (sym tail) c.check_bytes.ensures)
 
 pub returns-in-len2-up-clause-residue : goal.returns-in-len2-up-clause-residue
-returns-in-len2-up-clause-residue c = λ long. returns-in-len2-up-clause-result c ∙ residue c.args.frame.now (λ i h. search rules) long
+returns-in-len2-up-clause-residue c = returns-in-len2-up-clause-result c ∙ residue_of_all c.args.frame.now (λ i h. search rules)
