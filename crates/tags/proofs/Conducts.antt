@@ -13,7 +13,7 @@ use Rattle.tags.specs.declared.link.Link.{Link}
 use Rattle.tags.specs.declared.link.State.{State}
 use Rattle.tags.specs.declared.link.State.TheVariants.{Off, Idle, Requested, Declared, Halted, Active}
 use Rattle.tags.specs.Common.{reacts_by, by_link, with_opened}
-use Rattle.tags.specs.Conduct.{Conduct, Power, Writes, Openness, Accepting, PasswordWanted, OtherCards, LinkStays, Deafness, ReadsBack, PasswordCounts, Conversation, checking_op, is_check, acknowledges, speaks, checks_now, noted, verdicts_of, last_of, passes_by, not_declared}
+use Rattle.tags.specs.Conduct.{Conduct, Power, Writes, Openness, Accepting, PasswordWanted, OtherCards, OtherSerials, LinkStays, Deafness, ReadsBack, PasswordCounts, Conversation, checking_op, is_check, acknowledges, speaks, checks_now, noted, verdicts_of, last_of, passes_by, not_declared}
 use Rattle.tags.specs.Links.{LinkHears, link_hears, listens, hears_marker, is_declared, is_active, is_off, powered, answers_to}
 use Rattle.tags.specs.Links as links
 use Rattle.tags.specs.Pages.{serial_in, unlocked, locked_by, counter_in, counted_by}
@@ -294,6 +294,22 @@ other_cards op cid address bytes m apart =
     cond-false (answers_to cid m.shown.link) _ _
     (ap (λ (b : Bool). is_active m.shown.link.state && b) (ne_eqb cid m.shown.link.cid apart) ∙ and-false (is_active m.shown.link.state))
 
+-- two lists that differ are not equal byte by byte
+differ : (xs ys : List ℕ) → (xs ≡ ys → ⊥) → bytes_eq xs ys ≡ false
+differ xs ys apart =
+    ⊎_elim
+    (λ (t : bytes_eq xs ys ≡ true). absurd (apart ((bytes_eq-Decides xs ys).0 t)))
+    (λ (t : bytes_eq xs ys ≡ false). t)
+    (cases_Bool (bytes_eq xs ys))
+
+other_serials : OtherSerials
+other_serials named params inf m apart =
+    let own : List ℕ = serial_in m.shown.pages in
+    let state : State = m.shown.link.state in
+    let off : (is_declared state && bytes_eq named own) ≡ false =
+    ap (λ (b : Bool). is_declared state && b) (differ named own apart) ∙ and-false (is_declared state) in
+    (by_link_lem m _ (cond-false (is_declared state && bytes_eq named own) _ _ off), by_link_lem m _ (cond-false (is_declared state && bytes_eq named own) _ _ off))
+
 -- what data commands do to state, card number and draw number
 abbrev SameLink : PumpMeaning → PumpMeaning → Type 0
 SameLink m n = n.shown.link ≡ m.shown.link
@@ -345,6 +361,7 @@ conduct =
       accepting = accepting;
       password_wanted = password_wanted;
       other_cards = other_cards;
+      other_serials = other_serials;
       link_stays = link_stays;
       deafness = deafness;
       power = power;

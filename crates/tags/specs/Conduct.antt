@@ -10,7 +10,7 @@ use Rattle.tags.specs.declared.link.State.TheVariants.{Off, Idle, Requested, Dec
 use Rattle.tags.specs.Common.{Shown, is_off_tag, reacts_by}
 use Rattle.tags.specs.Edges.{tag_in}
 use Rattle.tags.specs.Kinds.{Meaning, Behaviour}
-use Rattle.tags.specs.Pages.{lock_bit}
+use Rattle.tags.specs.Pages.{lock_bit, serial_in}
 use Rattle.tags.specs.Pump.{PumpMeaning, PumpSized, page_of, pump_acts, pump_obeys, pump_reads, pump_writes, pump_checks}
 use Rattle.tags.specs.Reacts.{Reaction, unmoved, says_to}
 use Rattle.tags.specs.Says.{Says, Answer, Card, Page, Acknowledged, Refused}
@@ -90,6 +90,12 @@ abbrev pub OtherCards : Type 0
 OtherCards =
     (op : Op) (cid address : ℕ) (bytes : List ℕ) (m : PumpMeaning) → (cid ≢ m.shown.link.cid)
     → reacts_by pump_obeys (Command op cid address bytes) m ≡ unmoved m
+
+-- So do ATTRIB and HLTB for another serial number.
+abbrev pub OtherSerials : Type 0
+OtherSerials =
+    (named params inf : List ℕ) (m : PumpMeaning) → (named ≢ serial_in m.shown.pages)
+    → (reacts_by pump_obeys (Attrib named params inf) m ≡ unmoved m) × (reacts_by pump_obeys (Halt named) m ≡ unmoved m)
 
 -- DESELECT halts; no other data command changes the state, and none the card number or the draw number.
 abbrev pub halting : Op → State → State
@@ -232,6 +238,7 @@ pub record Conduct : Type 0 where
   pub accepting : Accepting
   pub password_wanted : PasswordWanted
   pub other_cards : OtherCards
+  pub other_serials : OtherSerials
   pub link_stays : LinkStays pump_obeys
   pub deafness : Deafness
   pub power : (m : PumpMeaning) → Power m
