@@ -1,8 +1,8 @@
 -- How a pump tag conducts itself.
 use Rattle.std.proofs.Common.{◌≡◌, ℕ, ◌%◌, Bool, true, false, cond, not, ◌&&◌, eqb, ltb, List, [], ◌∷◌, replicate, Some, None, Option, sym, refl, ap, ◌∙◌, ⊎_elim, arith, lit<}
 use Rattle.std.specs.Str.{bytes_eq}
-use Rattle.std.proofs.Math.Bool.{and-true}
-use Rattle.std.proofs.lemmas.Bool.{cond-false, cases_Bool, false≢true, eqb-true, eq-eqb, not-true}
+use Rattle.std.proofs.Math.Bool.{and-true, and-false}
+use Rattle.std.proofs.lemmas.Bool.{cond-false, cases_Bool, false≢true, eqb-true, ne_eqb, eq-eqb, not-true, and_parts}
 use Rattle.std.proofs.lemmas.Slice.Eq.{bytes_eq-Decides}
 use Rattle.typeb.specs.declared.frames.Op.{Op}
 use Rattle.typeb.specs.declared.frames.Op.TheVariants.{Read, Write, Lock, CheckPassword, Deselect, Count}
@@ -13,14 +13,15 @@ use Rattle.tags.specs.declared.link.Link.{Link}
 use Rattle.tags.specs.declared.link.State.{State}
 use Rattle.tags.specs.declared.link.State.TheVariants.{Off, Idle, Requested, Declared, Halted, Active}
 use Rattle.tags.specs.Common.{reacts_by, by_link, with_opened}
-use Rattle.tags.specs.Conduct.{Conduct, Power, Writes, Openness, Deafness, ReadsBack, PasswordCounts, Conversation, checking_op, is_check, speaks, checks_now, noted, verdicts_of, last_of, passes_by, not_declared}
+use Rattle.tags.specs.Conduct.{Conduct, Power, Writes, Openness, Accepting, PasswordWanted, OtherCards, OtherSerials, LinkStays, Deafness, ReadsBack, PasswordCounts, Conversation, checking_op, is_check, acknowledges, speaks, checks_now, noted, verdicts_of, last_of, passes_by, not_declared}
 use Rattle.tags.specs.Links.{LinkHears, link_hears, listens, hears_marker, is_declared, is_active, is_off, powered, answers_to}
 use Rattle.tags.specs.Links as links
-use Rattle.tags.specs.Pages.{serial_in, unlocked}
+use Rattle.tags.specs.Pages.{serial_in, unlocked, locked_by, counter_in, counted_by}
 use Rattle.tags.specs.Pump.{PumpMeaning, pump_acts, pump_obeys, pump_reads, pump_writes, pump_checks, asks, passes, page_of, with_page}
 use Rattle.tags.specs.Reacts.{Reaction, answered, unmoved, replies, says_at}
 use Rattle.tags.specs.Rules.{reading_of, writing_of, ever_read, read_now, by_write}
 use Rattle.tags.specs.Says.{Says, Page, Acknowledged, Refused}
+use Rattle.tags.specs.Tables.{StateTable, DrawTable, RefusalTable, MakingTable}
 use Rattle.tags.proofs.Asked.{after_read, after_write, after_lock, after_count}
 use Rattle.tags.proofs.Replaced.{replaced_here}
 use Rattle.tags.proofs.Staying.{keeps_power}
@@ -78,6 +79,49 @@ openness m (frame ∷ more) =
     openness (pump_acts.hears frame m).after more
     ∙ ap (λ (o : Bool). last_of o (verdicts_of (pump_acts.hears frame m).after more)) (step_opens (heard frame) m)
     ∙ noted_last (checks_now frame m) m.opened (pump_acts.hears frame m).accepted (verdicts_of (pump_acts.hears frame m).after more)
+
+-- a check is accepted exactly where it is acknowledged
+abbrev Accepts : Op → Reaction PumpMeaning → Type 0
+Accepts op r = r.accepted ≡ checking_op op && acknowledges r.says
+
+asked_accepts : (op : Op) (test : Bool) (code : ℕ) (m : PumpMeaning) (go : Reaction PumpMeaning) → Accepts op go → Accepts op (asks test code m go)
+asked_accepts op true code m go h = h
+asked_accepts op false code m go h = sym (and-false (checking_op op))
+
+check_accepts : (test : Bool) (m : PumpMeaning) → Accepts CheckPassword (cond test (passed m) (failed m))
+check_accepts true m = refl
+check_accepts false m = refl
+
+obey_accepts : (op : Op) (page : ℕ) (bytes : List ℕ) (m : PumpMeaning) → Accepts op (pump_obeys op page bytes m)
+obey_accepts Read page bytes m = asked_accepts Read (ever_read (reading_of page)) 0x21 m _ (asked_accepts Read (read_now (reading_of page) m.opened) 0x41 m (replies m (Page (page_of page m))) refl)
+obey_accepts Write page bytes m =
+    asked_accepts Write m.opened 0x41 m _
+    (asked_accepts Write (by_write (writing_of page)) 0x21 m _
+    (asked_accepts Write (unlocked page (page_of 0 m)) 0x11 m (replies (with_page page bytes m) Acknowledged) refl))
+obey_accepts Lock page bytes m = asked_accepts Lock m.opened 0x41 m (replies (with_page 0 (locked_by bytes (page_of 0 m)) m) Acknowledged) refl
+obey_accepts CheckPassword page bytes m = check_accepts (passes bytes m) m
+obey_accepts Deselect page bytes m = refl
+obey_accepts Count page bytes m =
+    asked_accepts Count m.opened 0x41 m _
+    (asked_accepts Count (unlocked 2 (page_of 0 m)) 0x11 m _
+    (asked_accepts Count (ltb (counter_in (page_of 2 m)) 0x8000) 0x21 m (replies (with_page 2 (counted_by bytes (page_of 2 m)) m) Acknowledged) refl))
+
+addressed_accepts : (mine : Bool) (op : Op) (m : PumpMeaning) (r : Reaction PumpMeaning) → Accepts op r → Accepts op (cond mine r (unmoved m))
+addressed_accepts true op m r h = h
+addressed_accepts false op m r h = sym (and-false (checking_op op))
+
+step_accepts : (o : Option Heard) (m : PumpMeaning)
+    → (answered (reacts_by pump_obeys) m o).accepted ≡ is_check o && acknowledges (says_at (reacts_by pump_obeys) m o)
+step_accepts (Some (Request family wake_up slots)) m = refl
+step_accepts (Some (SlotMarker slot)) m = refl
+step_accepts (Some (Attrib serial params inf)) m = refl
+step_accepts (Some (Halt serial)) m = refl
+step_accepts (Some (Command op cid address bytes)) m =
+    addressed_accepts (answers_to cid m.shown.link) op m _ (obey_accepts op (address % 32) bytes m)
+step_accepts None m = refl
+
+accepting : Accepting
+accepting frame m = step_accepts (heard frame) m
 
 -- deafness, by the frame and then by the state
 not_listening : (family : ℕ) (wake_up : Bool) (slots : Slots) (s : State) → passes_by (Request family wake_up slots) s ≡ true → listens s wake_up ≡ false
@@ -142,6 +186,7 @@ power m =
       on = has_power m.shown.link.state;
       stays_off = record { pages = refl; hidden = refl; card = refl; draw = refl };
       stays_on = record { pages = refl; hidden = refl; card = refl; draw = refl };
+      opens_none = refl;
     }
 
 -- a question whose answer was yes, since the command was acknowledged
@@ -234,9 +279,99 @@ password_counts bytes m sized eight said =
     ∙ ap (λ (b : Bool). not (bytes_eq bytes (replicate 8 0xFF)) && b) (ap (bytes_eq bytes) (replaced_here m sized 3 (lit< tt) bytes eight) ∙ (bytes_eq-Decides bytes bytes).1 refl)
     ∙ and-true (not (bytes_eq bytes (replicate 8 0xFF)))
 
+-- only the password on page 3 is accepted, and not all ones
+password_wanted : PasswordWanted
+password_wanted bytes m accepted =
+    let parts = and_parts (not (bytes_eq bytes (replicate 8 0xFF))) (bytes_eq bytes (page_of 3 m)) (sym (accepted_by (passes bytes m) m) ∙ accepted) in
+    record {
+      is = (bytes_eq-Decides bytes (page_of 3 m)).0 parts.1;
+      not_ones = λ (e : bytes ≡ replicate 8 0xFF).
+          false≢true (sym (not-true (bytes_eq bytes (replicate 8 0xFF)) parts.0) ∙ (bytes_eq-Decides bytes (replicate 8 0xFF)).1 e);
+    }
+
+other_cards : OtherCards
+other_cards op cid address bytes m apart =
+    cond-false (answers_to cid m.shown.link) _ _
+    (ap (λ (b : Bool). is_active m.shown.link.state && b) (ne_eqb cid m.shown.link.cid apart) ∙ and-false (is_active m.shown.link.state))
+
+-- two lists that differ are not equal byte by byte
+differ : (xs ys : List ℕ) → (xs ≡ ys → ⊥) → bytes_eq xs ys ≡ false
+differ xs ys apart =
+    ⊎_elim
+    (λ (t : bytes_eq xs ys ≡ true). absurd (apart ((bytes_eq-Decides xs ys).0 t)))
+    (λ (t : bytes_eq xs ys ≡ false). t)
+    (cases_Bool (bytes_eq xs ys))
+
+other_serials : OtherSerials
+other_serials named params inf m apart =
+    let own : List ℕ = serial_in m.shown.pages in
+    let state : State = m.shown.link.state in
+    let off : (is_declared state && bytes_eq named own) ≡ false =
+    ap (λ (b : Bool). is_declared state && b) (differ named own apart) ∙ and-false (is_declared state) in
+    (by_link_lem m _ (cond-false (is_declared state && bytes_eq named own) _ _ off), by_link_lem m _ (cond-false (is_declared state && bytes_eq named own) _ _ off))
+
+-- what data commands do to state, card number and draw number
+abbrev SameLink : PumpMeaning → PumpMeaning → Type 0
+SameLink m n = n.shown.link ≡ m.shown.link
+
+check_stays : (test : Bool) (m : PumpMeaning) → SameLink m (cond test (passed m) (failed m)).after
+check_stays true m = refl
+check_stays false m = refl
+
+link_stays : LinkStays pump_obeys
+link_stays Read page bytes m = after_read (SameLink m) m refl (λ p b. refl) page
+link_stays Write page bytes m = after_write (SameLink m) m refl (λ p b. refl) page bytes
+link_stays Lock page bytes m = after_lock (SameLink m) m refl (λ p b. refl) bytes
+link_stays CheckPassword page bytes m = check_stays (passes bytes m) m
+link_stays Deselect page bytes m = refl
+link_stays Count page bytes m = after_count (SameLink m) m refl (λ p b. refl) bytes
+
+-- the worked tables
+states : StateTable
+states = record { off = refl; idle = refl; requested = refl; declared = refl; halted = refl; active = refl; gained = refl; lost = refl }
+
+draws : DrawTable
+draws = record { slots = refl; two = refl; four = refl }
+
+refusals : RefusalTable
+refusals =
+    record {
+      read_closed = refl;
+      read_open = refl;
+      written_closed = refl;
+      written_open = refl;
+      locked_closed = refl;
+      locked_open = refl;
+      counted_closed = refl;
+      counted_locked = refl;
+      counted_out = refl;
+    }
+
+making : MakingTable
+making = record { pump = refl }
+
 conversation : Conversation
 unfolding fold_bit fold_bits fold_byte check_bytes sound heard
 conversation = refl
 
 pub conduct : Conduct
-conduct = record { openness = openness; deafness = deafness; power = power; frames = keeps_power; writes = writes; reads_back = reads_back; password_counts = password_counts; conversation = conversation }
+conduct =
+    record {
+      openness = openness;
+      accepting = accepting;
+      password_wanted = password_wanted;
+      other_cards = other_cards;
+      other_serials = other_serials;
+      link_stays = link_stays;
+      deafness = deafness;
+      power = power;
+      frames = keeps_power;
+      writes = writes;
+      reads_back = reads_back;
+      password_counts = password_counts;
+      conversation = conversation;
+      states = states;
+      draws = draws;
+      refusals = refusals;
+      making = making;
+    }

@@ -8,3 +8,4 @@ pub mod Moves
 pub mod Asked
 pub mod Staying
 pub mod Conducts
+pub mod GaugeConducts

@@ -7,21 +7,23 @@ use Rattle.typeb.specs.CheckBytes.{sealed}
 use Rattle.typeb.specs.Hears.{Heard, Request, SlotMarker, Attrib, Halt, Command, heard}
 use Rattle.tags.specs.declared.link.State.{State}
 use Rattle.tags.specs.declared.link.State.TheVariants.{Off, Idle, Requested, Declared, Halted, Active}
-use Rattle.tags.specs.Common.{is_off_tag, reacts_by}
+use Rattle.tags.specs.Common.{Shown, is_off_tag, reacts_by}
 use Rattle.tags.specs.Edges.{tag_in}
-use Rattle.tags.specs.Pages.{lock_bit}
+use Rattle.tags.specs.Kinds.{Meaning, Behaviour}
+use Rattle.tags.specs.Pages.{lock_bit, serial_in}
 use Rattle.tags.specs.Pump.{PumpMeaning, PumpSized, page_of, pump_acts, pump_obeys, pump_reads, pump_writes, pump_checks}
-use Rattle.tags.specs.Reacts.{unmoved, says_to}
-use Rattle.tags.specs.Says.{Says, Page, Acknowledged}
+use Rattle.tags.specs.Reacts.{Reaction, unmoved, says_to}
+use Rattle.tags.specs.Says.{Says, Answer, Card, Page, Acknowledged, Refused}
+use Rattle.tags.specs.Tables.{StateTable, DrawTable, RefusalTable, MakingTable}
 
 -- A tag that hears frames one after another: what it is then, and all that it answered.
 abbrev pub after_all : PumpMeaning → List (List ℕ) → PumpMeaning
 after_all m [] = m
 after_all m (frame ∷ more) = after_all (pump_acts.hears frame m).after more
 
-abbrev pub answers_all : PumpMeaning → List (List ℕ) → List (List ℕ)
-answers_all m [] = []
-answers_all m (frame ∷ more) = (pump_acts.hears frame m).reply ∷ answers_all (pump_acts.hears frame m).after more
+abbrev pub answers_all : {S H : Type 0} → Behaviour S H → Meaning S H → List (List ℕ) → List (List ℕ)
+answers_all acts m [] = []
+answers_all acts m (frame ∷ more) = (acts.hears frame m).reply ∷ answers_all acts (acts.hears frame m).after more
 
 -- The checks among the frames that the tag answers, each by whether it was accepted.
 abbrev pub checking_op : Op → Bool
@@ -63,6 +65,51 @@ last_of before (verdict ∷ more) = last_of verdict more
 -- it is as open as it was. So nothing but a check opens or closes it.
 abbrev pub Openness : Type 0
 Openness = (m : PumpMeaning) (frames : List (List ℕ)) → (after_all m frames).opened ≡ last_of m.opened (verdicts_of m frames)
+
+-- A check is accepted exactly where CHECK PASSWORD is acknowledged; and what it brings then is page 3, and not all ones.
+abbrev pub acknowledges : Option Says → Bool
+acknowledges (Some (Answer serial application protocol)) = false
+acknowledges (Some (Card cid)) = false
+acknowledges (Some (Page bytes)) = false
+acknowledges (Some Acknowledged) = true
+acknowledges (Some (Refused code)) = false
+acknowledges None = false
+
+abbrev pub Accepting : Type 0
+Accepting = (frame : List ℕ) (m : PumpMeaning) → (pump_acts.hears frame m).accepted ≡ is_check (heard frame) && acknowledges (says_to (reacts_by pump_obeys) frame m)
+
+pub record PasswordGiven (bytes : List ℕ) (m : PumpMeaning) : Type 0 where
+  pub is : bytes ≡ page_of 3 m
+  pub not_ones : bytes ≢ replicate 8 0xFF
+
+abbrev pub PasswordWanted : Type 0
+PasswordWanted = (bytes : List ℕ) (m : PumpMeaning) → (pump_checks bytes m).accepted ≡ true → PasswordGiven bytes m
+
+-- A data command for another card number meets silence and changes nothing.
+abbrev pub OtherCards : Type 0
+OtherCards =
+    (op : Op) (cid address : ℕ) (bytes : List ℕ) (m : PumpMeaning) → (cid ≢ m.shown.link.cid)
+    → reacts_by pump_obeys (Command op cid address bytes) m ≡ unmoved m
+
+-- So do ATTRIB and HLTB for another serial number.
+abbrev pub OtherSerials : Type 0
+OtherSerials =
+    (named params inf : List ℕ) (m : PumpMeaning) → (named ≢ serial_in m.shown.pages)
+    → (reacts_by pump_obeys (Attrib named params inf) m ≡ unmoved m) × (reacts_by pump_obeys (Halt named) m ≡ unmoved m)
+
+-- DESELECT halts; no other data command changes the state, and none the card number or the draw number.
+abbrev pub halting : Op → State → State
+halting Read state = state
+halting Write state = state
+halting Lock state = state
+halting CheckPassword state = state
+halting Deselect state = Halted
+halting Count state = state
+
+abbrev pub LinkStays : {H : Type 0} → (Op → ℕ → List ℕ → Meaning Shown H → Reaction (Meaning Shown H)) → Type 0
+LinkStays {H} obeys =
+    (op : Op) (page : ℕ) (bytes : List ℕ) (m : Meaning Shown H)
+    → (obeys op page bytes m).after.shown.link ≡ record { state = halting op m.shown.link.state; cid = m.shown.link.cid; draw = m.shown.link.draw }
 
 -- The frames that pass a tag by, in each state: requests pass by off and active tags, and REQB halted ones; a marker concerns
 -- only a tag that waits for its slot, ATTRIB and HLTB only a declared one, data commands only an active one.
@@ -112,6 +159,7 @@ pub record Power (m : PumpMeaning) : Type 0 where
   pub on : is_off_tag (pump_acts.gains m).shown ≡ false
   pub stays_off : Stays m (pump_acts.loses m)
   pub stays_on : Stays m (pump_acts.gains m)
+  pub opens_none : (pump_acts.gains m).opened ≡ m.opened
 
 -- No frame turns a tag on or off.
 abbrev pub FramesKeepPower : Type 0
@@ -182,11 +230,16 @@ replies_spoken =
     ∷ []
 
 abbrev pub Conversation : Type 0
-Conversation = answers_all (pump_acts.gains (tag_in Off false (0x11 ∷ 0x22 ∷ 0x33 ∷ 0x44 ∷ replicate 20 0) (replicate 232 0))) spoken ≡ replies_spoken
+Conversation = answers_all pump_acts (pump_acts.gains (tag_in Off false (0x11 ∷ 0x22 ∷ 0x33 ∷ 0x44 ∷ replicate 20 0) (replicate 232 0))) spoken ≡ replies_spoken
 
 -- All of these.
 pub record Conduct : Type 0 where
   pub openness : Openness
+  pub accepting : Accepting
+  pub password_wanted : PasswordWanted
+  pub other_cards : OtherCards
+  pub other_serials : OtherSerials
+  pub link_stays : LinkStays pump_obeys
   pub deafness : Deafness
   pub power : (m : PumpMeaning) → Power m
   pub frames : FramesKeepPower
@@ -194,3 +247,7 @@ pub record Conduct : Type 0 where
   pub reads_back : ReadsBack
   pub password_counts : PasswordCounts
   pub conversation : Conversation
+  pub states : StateTable
+  pub draws : DrawTable
+  pub refusals : RefusalTable
+  pub making : MakingTable

@@ -9,7 +9,9 @@ pub mod Pump
 pub mod Gauge
 pub mod Making
 pub mod Edges
+pub mod Tables
 pub mod Conduct
+pub mod GaugeConduct
 pub mod Guarded
 pub mod Twinned
 pub mod Alike

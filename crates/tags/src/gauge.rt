@@ -7,6 +7,7 @@ ghost use Rattle.tags.specs.Making.{new_gauge, gauge_made};
 ghost use Rattle.tags.specs.Reacts.{Reacted};
 ghost use Rattle.tags.specs.Says.{page_said};
 ghost use Rattle.tags.specs.Guarded.{gauge_duties};
+ghost use Rattle.tags.specs.GaugeConduct.{GaugeConduct};
 
 use crate::hearing::Response;
 use crate::link::Link;
@@ -24,9 +25,11 @@ pub struct GaugeTag {
 }
 
 impl GaugeTag {
-    // A tag just made, both of its pages zero.
+    // A tag just made, both of its pages zero. How a gauge conducts itself stands in clause `conduct`.
+    #[tactic(auto, using(crate::proofs::GaugeConducts::conduct))]
     pub fn blank(draw: u16) -> GaugeTag
-        ensures { gauge_means result ≡ new_gauge (replicate 16 0) draw }
+        ensures result { gauge_means result ≡ new_gauge (replicate 16 0) draw }
+        ensures conduct { GaugeConduct }
     {
         GaugeTag::made([0u8; 16], draw)
     }
