@@ -5,6 +5,7 @@ pub mod Scripts
 pub mod Stock
 pub mod Worked
 pub mod Step
+pub mod Steps
 pub mod Runs
 pub mod Laws
 pub mod Views
