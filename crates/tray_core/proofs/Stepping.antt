@@ -306,9 +306,10 @@ module _ {SF HF SB HB : Type 0} (F : Behaviour SF HF) (B : Behaviour SB HB) (t :
     aired = asked_own fit (Frame frame) None (ap (λ (x : Bool). cond {A = Option ℕ} x None (Some 6)) (le-leb 16 (length buffer) room))
 
     answered : ((step F B (Frame frame) t buffer list).answer ≡ Ok (heard_answer (count_replies all))) × ((step F B (Frame frame) t buffer list).buffer ≡ heard_buffer (count_replies all) buffer)
-    answered =
-        (ap (λ (o : Outcome M). o.answer) aired ∙ ap (λ (s : Sounds). Ok (heard_answer s)) is,
-        ap (λ (o : Outcome M). o.buffer) aired ∙ ap (λ (s : Sounds). heard_buffer s buffer) is)
+    answered = (
+      ap (λ (o : Outcome M). o.answer) aired ∙ ap (λ (s : Sounds). Ok (heard_answer s)) is,
+      ap (λ (o : Outcome M). o.buffer) aired ∙ ap (λ (s : Sounds). heard_buffer s buffer) is,
+    )
 
   answer_by : (c : Asks) (fit : Fit F B t buffer list) (o : Option ℕ) → own_question c t buffer list ≡ o → (step F B c t buffer list).answer ≡ (by o c).answer
   answer_by c fit o own = ap (λ (x : Outcome M). x.answer) (asked_own fit c o own)
