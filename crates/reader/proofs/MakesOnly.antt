@@ -3,7 +3,7 @@ use Rattle.std.proofs.Common.{◌≡◌, ℕ, Bool, true, false, ◌&&◌, cond,
 use Rattle.std.proofs.lemmas.Bool.{le-leb, lt-leb}
 use Rattle.std.proofs.lemmas.List.{drop_at, take_at}
 use Rattle.refusals.specs.Numbers.{asked}
-use Rattle.reader.specs.Commands.{Asked, in_range, frame_for}
+use Rattle.reader.specs.Commands.{in_range, frame_for}
 use Rattle.reader.specs.Laws.{MakesOnly}
 
 -- result and buffer, by the answers to the two questions

@@ -1,13 +1,12 @@
 -- The laws of one call: what refuses it, what is heard, and what it makes of every tag.
-use Rattle.std.proofs.Common.{◌≡◌, ℕ, zero, suc, ◌+◌, ◌-◌, ◌<◌, ◌≤◌, ◌⊎◌, inl, inr, ⊎_elim, Bool, true, false, cond, not, ◌&&◌, ◌||◌, eqb, leb, List, [], ◌∷◌, ◌++◌, map, length, drop, Some, None, Ok, Err, Option, Result, slice_get, option_map, sym, refl, ap, ◌∙◌, subst, arith}
-use Rattle.std.proofs.lemmas.Bool.{and_parts, cond_both, eq-eqb, ne_eqb, eqb-true, le-leb, leb-true, leb-false, lt-leb, or_cases, or_left, or_right}
+use Rattle.std.proofs.Common.{◌≡◌, ℕ, zero, suc, ◌+◌, ◌-◌, ◌<◌, ◌≤◌, ◌⊎◌, inl, inr, ⊎_elim, Bool, true, false, cond, not, ◌&&◌, ◌||◌, eqb, leb, List, [], ◌∷◌, ◌++◌, map, length, Some, None, Ok, Err, Option, Result, slice_get, option_map, sym, refl, ap, ◌∙◌, arith}
+use Rattle.std.proofs.lemmas.Bool.{and_parts, cond_both, ne_eqb, le-leb, leb-true, leb-false, lt-leb, or_cases, or_left, or_right}
 use Rattle.std.proofs.lemmas.Bool.Decides.{nat_tests}
 use Rattle.std.proofs.lemmas.Option.{slice_get-map}
 use Rattle.std.proofs.Math.Dec.{eqb-suc-suc, eqb-suc-zero, eqb-zero-suc}
 use Rattle.tags.specs.Kinds.{Meaning, Behaviour}
 use Rattle.tray_core.specs.declared.calls.Answer.{Answer}
-use Rattle.tray_core.specs.declared.calls.Answer.TheVariants as answer
-use Rattle.tray_core.specs.Rows.{Post, if_here, change_at, placed, lifted, hearing, voice_at, row_sounds}
+use Rattle.tray_core.specs.Rows.{Post, if_here, change_at, placed, lifted, hearing, row_sounds}
 use Rattle.tray_core.specs.Sounds.{Sounds, Silence, Reply, meet, voice, audible, count_replies}
 use Rattle.tray_core.specs.Step.{Asks, On, Off, Place, Lift, Frame, Stock, Outcome, heard_answer, heard_buffer, own_question, refused_by, unless_refused, does, step}
 use Rattle.tray_core.specs.Steps.{Steps, befalls, replies_in, replies, lit_by, Fit, Named}

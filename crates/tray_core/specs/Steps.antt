@@ -1,5 +1,5 @@
 -- One call in the subject's words: laws of `step` for every kind and every tray, in any state, reached or not.
-use Rattle.std.specs.Prelude.{◌≡◌, ℕ, ◌+◌, ◌<◌, ◌≤◌, ◌⊎◌, Bool, true, false, cond, not, ◌&&◌, ◌||◌, List, [], ◌∷◌, ◌++◌, length, drop, Ok, Err, Result, ◌==◌, ◌≢◌, slice_get}
+use Rattle.std.specs.Prelude.{◌≡◌, ℕ, ◌+◌, ◌<◌, ◌≤◌, ◌⊎◌, Bool, true, false, cond, not, ◌&&◌, ◌||◌, List, [], ◌∷◌, ◌++◌, length, drop, Ok, Err, ◌==◌, ◌≢◌, slice_get}
 use Rattle.std.specs.Option.{option_map}
 use Rattle.tags.specs.Kinds.{Behaviour}
 use Rattle.tray_core.specs.declared.calls.Answer.{Answer}
@@ -54,7 +54,8 @@ module _ {SF HF SB HB : Type 0} (F : Behaviour SF HF) (B : Behaviour SB HB) (t :
     pub refused : (c : Asks) (why : ℕ) → (comes c).answer ≡ Err why → comes c ≡ record { answer = Err why; tray = t; buffer = buffer; list = list }
     -- The questions in their order: rows that do not fit refuse every call;
     pub rows : (c : Asks) → (Fit → ⊥) → (comes c).answer ≡ Err 4
-    -- where they fit, a number that names no tag refuses Place and Lift, a short buffer Frame, a short list Stock, and nothing else does.
+    -- where they fit, Place and Lift are refused by a number that names no tag, and done by any other, as On and Off are;
+    -- Frame is refused by a buffer of fewer than 16 bytes, Stock by a list of fewer than 128 places.
     pub unnamed : Fit → (n : ℕ) → (Named n → ⊥) → ((comes (Place n)).answer ≡ Err 5) × ((comes (Lift n)).answer ≡ Err 5)
     pub named : Fit → (n : ℕ) → Named n → ((comes (Place n)).answer ≡ Ok answer.Done) × ((comes (Lift n)).answer ≡ Ok answer.Done)
     pub lit : Fit → ((comes On).answer ≡ Ok answer.Done) × ((comes Off).answer ≡ Ok answer.Done)
