@@ -8,7 +8,7 @@ use Rattle.typeb.specs.declared.frames.Slots.TheVariants.{One, Two, Four, Eight,
 use Rattle.typeb.specs.Hears as hears
 use Rattle.typeb.specs.Hears.{slot_count}
 use Rattle.reader.specs.Commands.{Asked, Request, SlotMarker, Attrib, Halt, Read, Write, Lock, CheckPassword, Deselect, Count}
-use Rattle.reader.specs.Commands.{in_range, frame_for, heard_as}
+use Rattle.reader.specs.Commands.{in_range, frame_for, heard_as, is_slots, slots_for}
 use Rattle.reader.specs.Laws.{Sized, IdleIsZero, idle, NamesAll, heeded, named}
 
 idle_zero : (a : Asked) → Sized a → idle (heard_as a) ≡ replicate (length (idle (heard_as a))) 0
@@ -33,8 +33,12 @@ idle_is_zero = record { bytes = idle_zero; bits = small_bits }
 pub own_page : (cid page : ℕ) → (leb cid 15 && leb page 31) ≡ true → page % 32 ≡ page
 own_page cid page ok = let low = leb-true page 31 (and_parts (leb cid 15) (leb page 31) ok).1 in omega arith
 
+-- a number of slots in range is the number of the slots announced
+own_slots : (slots : ℕ) → is_slots slots ≡ true → slot_count (slots_for slots) ≡ slots
+own_slots slots ok = grind (arith, nat_tests)
+
 values_heard : (a : Asked) → Sized a → in_range a ≡ true → heeded (heard_as a) ≡ named a
-values_heard (Request wake_up family slots) sized ok = refl
+values_heard (Request wake_up family slots) sized ok = ap (λ n. family ∷ n ∷ []) (own_slots slots ok)
 values_heard (SlotMarker slot) sized ok = refl
 values_heard (Attrib serial cid inf) sized ok = refl
 values_heard (Halt serial) sized ok = refl

@@ -1,5 +1,5 @@
 -- The laws of the reader's half.
-use Rattle.std.specs.Prelude.{◌≡◌, ℕ, ◌-◌, ◌%◌, ◌<◌, Bool, true, false, List, [], ◌∷◌, ◌++◌, length, take, drop, replicate, Some, Ok, Err, ◌≢◌, slice_index, slice_index_or}
+use Rattle.std.specs.Prelude.{◌≡◌, ℕ, ◌-◌, ◌%◌, ◌<◌, ◌≤◌, Bool, true, false, List, [], ◌∷◌, ◌++◌, length, take, drop, replicate, Some, Ok, Err, ◌≢◌, slice_index, slice_index_or}
 use Rattle.typeb.specs.CheckBytes.{sealed, sound}
 use Rattle.typeb.specs.declared.frames.Op.{Op}
 use Rattle.typeb.specs.declared.frames.Op.TheVariants as op
@@ -12,7 +12,7 @@ use Rattle.tags.specs.Common.{reacts_by}
 use Rattle.tags.specs.Pump.{PumpMeaning, PumpSized, pump_obeys, pump_acts}
 use Rattle.tags.specs.Gauge.{GaugeMeaning, GaugeSized, gauge_obeys, gauge_acts}
 use Rattle.reader.specs.Commands.{Asked, Request, SlotMarker, Attrib, Halt, Read, Write, Lock, CheckPassword, Deselect, Count}
-use Rattle.reader.specs.Commands.{in_range, frame_for, heard_as}
+use Rattle.reader.specs.Commands.{in_range, frame_for, heard_as, made_for, buffer_for}
 use Rattle.reader.specs.Judged.{judged}
 
 -- The fields of a command have their lengths, as the arrays of the code have.
@@ -66,15 +66,15 @@ heeded_data op.Count address bytes = take 6 bytes
 
 -- The numbers of what is heard that a tag goes by.
 abbrev pub heeded : Heard → List ℕ
-heeded (hears.Request family wake_up slots) = family ∷ []
+heeded (hears.Request family wake_up slots) = family ∷ slot_count slots ∷ []
 heeded (hears.SlotMarker slot) = slot ∷ []
 heeded (hears.Attrib serial params inf) = serial ++ (slice_index params 3 ∷ inf)
 heeded (hears.Halt serial) = serial
 heeded (hears.Command op cid address bytes) = cid ∷ heeded_data op address bytes
 
--- The values of a command. (A request's flag and number of slots aside.)
+-- The values of a command. (A request's flag aside.)
 abbrev pub named : Asked → List ℕ
-named (Request wake_up family slots) = family ∷ []
+named (Request wake_up family slots) = family ∷ slots ∷ []
 named (SlotMarker slot) = slot ∷ []
 named (Attrib serial cid inf) = serial ++ (cid ∷ inf)
 named (Halt serial) = serial
@@ -98,6 +98,18 @@ pub record NamesAll : Type 0 where
   pub requests : (wake_up : Bool) (family : ℕ) (slots : Slots) → in_range (Request wake_up family (slot_count slots)) ≡ true
   pub markers : (slot : ℕ) → 1 < slot → slot < 17 → in_range (SlotMarker slot) ≡ true
   pub halts : (serial : List ℕ) → in_range (Halt serial) ≡ true
+
+-- Making, by what it is given.
+pub record MakesOnly : Type 0 where
+  -- A buffer of fewer than 16 bytes is refused by number 6, whatever the command; any other, with a value out of range, by 8;
+  pub short : (a : Asked) (buffer : List ℕ) → length buffer < 16 → made_for a buffer ≡ Err 6
+  pub out_of_range : (a : Asked) (buffer : List ℕ) → 16 ≤ length buffer → in_range a ≡ false → made_for a buffer ≡ Err 8
+  -- the rest is made: the frame's length is answered, the frame stands in front, every other byte is as it was.
+  pub made : (a : Asked) (buffer : List ℕ) → 16 ≤ length buffer → in_range a ≡ true → made_for a buffer ≡ Ok (length (frame_for a))
+  pub front : (a : Asked) (buffer : List ℕ) (n : ℕ) → made_for a buffer ≡ Ok n → take n (buffer_for a buffer) ≡ frame_for a
+  pub behind : (a : Asked) (buffer : List ℕ) (n : ℕ) → made_for a buffer ≡ Ok n → drop n (buffer_for a buffer) ≡ drop n buffer
+  -- A refusal leaves the whole buffer as it was.
+  pub refused : (a : Asked) (buffer : List ℕ) (why : ℕ) → made_for a buffer ≡ Err why → buffer_for a buffer ≡ buffer
 
 -- What can be said in answer to a command. READ brings no acknowledgement, DESELECT no refusal.
 pub data Answers : Asked → Says → Type 0 where

@@ -101,7 +101,7 @@ fn read_page(head: u8, page: u8, body: &[u8]) -> Result<Reply, Refusal>
     match body {
         &[first, status] if first == head => judge_status(false, true, status),
         [first, number, bytes @ ..] if *first == head && *number == page => Ok(Reply::Page(
-            *bytes.first_chunk::<8>().ok_or(Refusal::ReplyUnexpected)?,
+            *bytes.first_chunk::<8>().unwrap(),
         )),
         _ => Err(Refusal::ReplyUnexpected),
     }

@@ -16,4 +16,5 @@ pub mod Stocked
 pub mod Tallies
 pub mod Worked
 pub mod Powered
+pub mod Stepping
 pub mod Lawful

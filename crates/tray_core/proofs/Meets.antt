@@ -33,7 +33,7 @@ order (Clash m) Silence = refl
 order (Clash m) (Reply b) = refl
 order (Clash m) (Clash n) = ap Clash (add_comm m n)
 
-one_more : (a : List ℕ) (replies : List (List ℕ)) → meet (Reply a) (count_replies replies) ≡ count_replies (a ∷ replies)
+pub one_more : (a : List ℕ) (replies : List (List ℕ)) → meet (Reply a) (count_replies replies) ≡ count_replies (a ∷ replies)
 one_more a [] = refl
 one_more a (b ∷ []) = refl
 one_more a (b ∷ (c ∷ more)) = ap Clash (omega arith)

@@ -1,10 +1,10 @@
 -- The law over every run: no sequence of calls shows what a closed tag hides, undoes a lock or loses a count;
 -- and a tag has power exactly when it is on the tray and the field is on.
-use Rattle.std.specs.Prelude.{◌≡◌, ℕ, zero, suc, ◌+◌, ◌<◌, ◌≤◌, Bool, true, false, cond, not, ◌&&◌, List, [], ◌∷◌, ◌++◌, length, replicate, Some, None, Ok, Option}
+use Rattle.std.specs.Prelude.{◌≡◌, ℕ, zero, suc, ◌+◌, ◌<◌, ◌≤◌, Bool, true, false, cond, not, ◌&&◌, List, [], ◌∷◌, ◌++◌, map, length, replicate, Some, None, Ok, Option}
 use Rattle.typeb.specs.declared.frames.Op.TheVariants as op
 use Rattle.typeb.specs.Hears as hears
 use Rattle.typeb.specs.Hears.{Heard, heard}
-use Rattle.tags.specs.Kinds.{Behaviour}
+use Rattle.tags.specs.Kinds.{Meaning, Behaviour}
 use Rattle.tags.specs.Common.{Shown, is_off_tag, reacts_by}
 use Rattle.tags.specs.Making.{new_pump, pump_made}
 use Rattle.tags.specs.Pages.{lock_bit, counter_in, serial_in}
@@ -14,7 +14,7 @@ use Rattle.tags.specs.Says.{Says, Answer, Card, Page, Acknowledged, Refused}
 use Rattle.tray_core.specs.Rows.{Post}
 use Rattle.tray_core.specs.Runs.{Turn, Which, turn, run, seen, NoCheck, Apart}
 use Rattle.tray_core.specs.Step.{Asks, On, Off, Place, Lift, Frame, Stock, refused_by}
-use Rattle.tray_core.specs.Trays.{Model}
+use Rattle.tray_core.specs.Trays.{Model, present, loaded_with}
 
 -- Hiding: two trays that are equal except in what one closed tag hides, in any state, reached or not, are equal
 -- to every caller, for as long as that tag accepts no check in either; and they stay equal but for that part.
@@ -128,6 +128,10 @@ module _ {S H : Type 0} (B : Behaviour S H) where
       (t : Model Shown (List ℕ) S H) → LoadedFront t → (n : ℕ) → n < length t.front → (cs : List Turn)
       → is_off_tag (pump_at n (run pump_acts B t cs).front).shown ≡ not ((run pump_acts B t cs).field && here_at n (run pump_acts B t cs).front)
 
+  -- Such a tray is loaded of any pump tags just made, and of any tags behind them.
+  abbrev pub LoadsFront : Type 0
+  LoadsFront = (front : List PumpMeaning) (back : List (Meaning S H)) → AllMade (map present front) → LoadedFront (loaded_with front back)
+
 -- Any kind in front, pump tags behind.
 module _ {S H : Type 0} (F : Behaviour S H) where
   pub record LoadedBack (t : Model S H Shown (List ℕ)) : Type 0 where
@@ -157,6 +161,9 @@ module _ {S H : Type 0} (F : Behaviour S H) where
       (t : Model S H Shown (List ℕ)) → LoadedBack t → (n : ℕ) → n < length t.back → (cs : List Turn)
       → is_off_tag (pump_at n (run F pump_acts t cs).back).shown ≡ not ((run F pump_acts t cs).field && here_at n (run F pump_acts t cs).back)
 
+  abbrev pub LoadsBack : Type 0
+  LoadsBack = (front : List (Meaning S H)) (back : List PumpMeaning) → AllMade (map present back) → LoadedBack (loaded_with front back)
+
 -- The whole law, for a front and a back kind.
 pub record Law {SF HF SB HB : Type 0} (F : Behaviour SF HF) (B : Behaviour SB HB) : Type 0 where
   pub hiding : Hiding F B
@@ -166,3 +173,5 @@ pub record Law {SF HF SB HB : Type 0} (F : Behaviour SF HF) (B : Behaviour SB HB
   pub counts_behind : CountsBack F
   pub power_in_front : PowerFront B
   pub power_behind : PowerBack F
+  pub loads_in_front : LoadsFront B
+  pub loads_behind : LoadsBack F

@@ -3,8 +3,9 @@ pub mod Rows
 pub mod Trays
 pub mod Scripts
 pub mod Stock
-pub mod Worked
 pub mod Step
+pub mod Worked
+pub mod Steps
 pub mod Runs
 pub mod Laws
 pub mod Views

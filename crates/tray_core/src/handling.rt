@@ -1,7 +1,9 @@
 // The one call that takes all six, with the law over every run.
-ghost use Rattle.std.specs.Prelude.{◌≡◌};
+ghost use Rattle.std.specs.Prelude.{◌≡◌, ℕ, List};
 ghost use Rattle.tray_core.specs.Laws.{Law};
 ghost use Rattle.tray_core.specs.Step.{Stepped, asks_of, step};
+ghost use Rattle.tray_core.specs.Steps.{Steps};
+ghost use Rattle.tray_core.specs.Trays.{Model};
 ghost use Rattle.tray_core.specs.Views.{model_of};
 
 use crate::calls::{Answer, Call};
@@ -12,7 +14,9 @@ use typeb::frames::Serial;
 
 impl<F: Kind, B: Kind> Tray<F, B> {
     // Takes any of the six calls, with a buffer and a list of its own. A refused call leaves tray, buffer and list as they were.
+    // What refuses a call, what is heard and what it makes of every tag, in the subject's words: clause `steps`.
     // No sequence of calls shows what a closed tag hides, undoes a lock or loses a count: clause `runs`.
+    #[tactic(auto, using(crate::proofs::Stepping::steps))]
     pub fn handle(
         &mut self,
         call: Call<&[u8]>,
@@ -20,6 +24,7 @@ impl<F: Kind, B: Kind> Tray<F, B> {
         list: &mut [Serial],
     ) -> Result<Answer, Refusal>
         ensures result { Stepped (step F.Kind.acts B.Kind.acts (asks_of call.entry) (model_of F.Kind.means B.Kind.means self.old) buffer.old list.old) result (model_of F.Kind.means B.Kind.means self.new) buffer.new list.new }
+        ensures steps { (t : Model F.Kind.Shown F.Kind.Hidden B.Kind.Shown B.Kind.Hidden) (b : List ℕ) (l : List (List ℕ)) → Steps F.Kind.acts B.Kind.acts t b l }
         ensures runs { Law F.Kind.acts B.Kind.acts }
     {
         match call {
