@@ -3,5 +3,5 @@ pub mod Drafted
 pub mod Ran
 pub mod ReadBack
 pub mod Playing
-mod Worked
-mod OnlyRead
+pub mod Worked
+pub mod OnlyRead

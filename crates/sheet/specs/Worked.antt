@@ -156,11 +156,11 @@ refused_sheets =
     ∷ record { text = codes "tag,pump,0000\npage,1,0,1122334401000000\n"; prints = codes "2,refused,18\n" }
     ∷ record { text = codes "tag,pump,0000\npage,0,32,1122334401000000\n"; prints = codes "2,refused,18\n" }
     ∷ record { text = codes "tag,gauge,0000\npage,32,2,1122334401000000\n"; prints = codes "2,refused,18\n" }
-    -- lock bits of a pump tag and of a gauge; a counter of 8001 hex, and one of 8000 hex
+    -- lock bits of a pump tag and of a gauge; a counter of 8001 hex, and one of 8000 hex, with the last page set too
     ∷ record { text = codes "tag,pump,0000\npage,0,0,1122334401000000\n"; prints = codes "2,refused,2\n" }
     ∷ record { text = codes "tag,gauge,0000\npage,32,0,1122334400000001\n"; prints = codes "2,refused,2\n" }
     ∷ record { text = codes "tag,pump,0000\npage,0,2,0000000000000180\n"; prints = codes "2,refused,3\n" }
-    ∷ record { text = codes "tag,pump,0000\npage,0,2,0000000000000080\non\n"; prints = codes "3,ok\n" }
+    ∷ record { text = codes "tag,pump,0000\npage,0,2,0000000000000080\npage,0,31,0123456789abcdef\non\n"; prints = codes "4,ok\n" }
     -- 33 tags in a row, before a tag that is not named; such a tag
     ∷ record { text = lined (replicate 33 (codes "tag,pump,0000")) ++ codes "place,99\n"; prints = codes "34,refused,4\n" }
     ∷ record { text = lined (replicate 33 (codes "tag,gauge,0000")) ++ codes "on\n"; prints = codes "34,refused,4\n" }
