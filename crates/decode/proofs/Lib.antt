@@ -1,3 +1,4 @@
 pub mod Stepping
 pub mod Quotes
 pub mod Numbering
+pub mod Worked

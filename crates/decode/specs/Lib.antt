@@ -3,3 +3,4 @@ pub mod Words
 pub mod Faults
 pub mod Report
 pub mod Options
+pub mod Worked

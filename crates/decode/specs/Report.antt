@@ -3,7 +3,7 @@ use Rattle.std.specs.Prelude.{ℕ, ◌+◌, Bool, cond, List, [], ◌∷◌, ◌
 use Rattle.hex_pairs.specs.Hex.{hex_text}
 use Rattle.typeb.specs.CheckBytes.{sound, sealed}
 use Rattle.typeb.specs.Hears.{Heard, heard}
-use Rattle.decode.specs.Lines.{line_bytes}
+use Rattle.decode.specs.Lines.{line_bytes, lines_of}
 use Rattle.decode.specs.Faults.{fault_of}
 use Rattle.decode.specs.Words.{text, words}
 
@@ -45,3 +45,10 @@ all_reports sealing (line ∷ lines) = reported sealing (line_bytes line) ++ all
 abbrev pub all_faults : ℕ → List (List ℕ) → List ℕ
 all_faults number [] = []
 all_faults number (line ∷ lines) = faulted number line (line_bytes line) ++ all_faults (number + 1) lines
+
+-- The reports and the messages of a text. Lines are numbered from 1.
+abbrev pub reports_of : Bool → List ℕ → List ℕ
+reports_of sealing bytes = all_reports sealing (lines_of bytes)
+
+abbrev pub faults_of : List ℕ → List ℕ
+faults_of bytes = all_faults 1 (lines_of bytes)

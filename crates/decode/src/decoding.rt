@@ -1,7 +1,8 @@
 // The decoding of a text of lines.
 ghost use Rattle.std.specs.Prelude.{◌≡◌, ◌++◌, IfOk, string_bytes, OnOk};
-ghost use Rattle.decode.specs.Lines.{line_bytes, lines_of};
-ghost use Rattle.decode.specs.Report.{reported, faulted, all_reports, all_faults};
+ghost use Rattle.decode.specs.Lines.{line_bytes};
+ghost use Rattle.decode.specs.Report.{reported, faulted, reports_of, faults_of};
+ghost use Rattle.decode.specs.Worked.{WorkedTexts};
 
 use crate::faults::Fault;
 use crate::lines::read_line;
@@ -38,10 +39,13 @@ impl Decoded {
 }
 
 // Decodes a text line by line. With `sealing` the bytes of each line are sealed first: a flag of the command line, which each
-// definition takes too, so a closure for the step would be no plainer.
+// definition takes too, so a closure for the step would be no plainer. Texts worked out by hand give what was worked out: clause
+// `worked`.
+#[tactic(auto, using(crate::proofs::Worked::worked_texts))]
 pub fn decode_text(heap: Global, text: &[u8], sealing: bool) -> Result<Decoded, AllocError>
-    ensures reports { IfOk result (λ d. string_bytes d.reports ≡ all_reports sealing (lines_of text.now)) }
-    ensures faults { IfOk result (λ d. string_bytes d.faults ≡ all_faults 1 (lines_of text.now)) }
+    ensures reports { IfOk result (λ d. string_bytes d.reports ≡ reports_of sealing text.now) }
+    ensures faults { IfOk result (λ d. string_bytes d.faults ≡ faults_of text.now) }
+    ensures worked { WorkedTexts }
 {
     let mut decoded = Decoded {
         reports: String::new(heap),

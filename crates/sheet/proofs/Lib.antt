@@ -3,3 +3,5 @@ pub mod Drafted
 pub mod Ran
 pub mod ReadBack
 pub mod Playing
+pub mod Worked
+pub mod OnlyRead

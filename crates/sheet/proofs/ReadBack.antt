@@ -36,11 +36,11 @@ three_digits a b c some h k l =
     digit_next 0 a ((48 + b) ∷ (48 + c) ∷ []) h ∙ digit_next (10 * 0 + a) b ((48 + c) ∷ []) k ∙ digit_next (10 * (10 * 0 + a) + b) c [] l ∙ ap (λ (m : ℕ). Some m) (omega arith) in
     simp (first, read) refl
 
-decimal_two : (n : ℕ) → 10 ≤ n → n < 100 → decimal n ≡ (48 + n / 10) ∷ (48 + n % 10) ∷ []
+pub decimal_two : (n : ℕ) → 10 ≤ n → n < 100 → decimal n ≡ (48 + n / 10) ∷ (48 + n % 10) ∷ []
 decimal_two n h k =
     decimal_step n h (omega arith) ∙ ap (λ (t : List ℕ). t ++ ((48 + n % 10) ∷ [])) (decimal_digit (n / 10) (omega arith))
 
-decimal_three : (n : ℕ) → 100 ≤ n → n < 1000 → decimal n ≡ (48 + n / 10 / 10) ∷ (48 + n / 10 % 10) ∷ (48 + n % 10) ∷ []
+pub decimal_three : (n : ℕ) → 100 ≤ n → n < 1000 → decimal n ≡ (48 + n / 10 / 10) ∷ (48 + n / 10 % 10) ∷ (48 + n % 10) ∷ []
 decimal_three n h k =
     decimal_step n (omega arith) (omega arith) ∙ ap (λ (t : List ℕ). t ++ ((48 + n % 10) ∷ [])) (decimal_two (n / 10) (omega arith) (omega arith))
 

@@ -8,3 +8,4 @@ pub mod Views
 pub mod Laws
 pub mod Played
 pub mod Cuts
+pub mod Worked

@@ -3,7 +3,7 @@ ghost use Rattle.std.specs.Prelude.{◌≡◌, ◌≤◌, length};
 ghost use Rattle.hex_pairs.specs.Hex.{hex_bytes};
 ghost use Rattle.sheet.specs.Fields.{digits_after, number_of, bytes_in, draw_of};
 ghost use Rattle.sheet.specs.Fields.{option_bytes, result_bytes, AtMost};
-ghost use Rattle.sheet.specs.Laws.{NumberReadsBack, BytesReadBack, DrawReadsBack};
+ghost use Rattle.sheet.specs.Laws.{NumberReadsBack, BytesReadBack, DrawReadsBack, NumberOnlyRead, BytesOnlyRead, DrawOnlyRead};
 
 use crate::bytes::Bytes;
 use crate::faults::FieldFault;
@@ -27,10 +27,11 @@ fn digits_value(field: &[u8]) -> Option<usize>
 
 // A plain number: one to three decimal digits, a zero in front only where it is alone.
 // Every number below 1000 is read back from its decimal text: clause `reads_back`.
-#[tactic(auto, using(crate::proofs::ReadBack::number_reads_back))]
+#[tactic(auto, using(crate::proofs::ReadBack::number_reads_back, crate::proofs::OnlyRead::number_only_read))]
 pub fn read_number(field: &[u8]) -> Result<usize, FieldFault>
     ensures result { result ≡ number_of field.now }
     ensures reads_back { NumberReadsBack }
+    ensures only { NumberOnlyRead }
 {
     if field.is_empty() || field.len() > 3 {
         return Err(FieldFault::Number);
@@ -78,10 +79,11 @@ pub fn read_body(field: &[u8]) -> Result<Bytes, FieldFault>
 }
 
 // A frame as it stands: 1 to 16 bytes. Bytes are read back from their hex text: clause `reads_back`.
-#[tactic(auto, using(crate::proofs::ReadBack::bytes_read_back))]
+#[tactic(auto, using(crate::proofs::ReadBack::bytes_read_back, crate::proofs::OnlyRead::bytes_only_read))]
 pub fn read_raw(field: &[u8]) -> Result<Bytes, FieldFault>
     ensures result { result_bytes result ≡ bytes_in 1 16 field.now }
     ensures reads_back { BytesReadBack }
+    ensures only { BytesOnlyRead }
 {
     read_bytes(field, 1, 16)
 }
@@ -96,10 +98,11 @@ pub fn read_page(field: &[u8]) -> Result<[u8; 8], FieldFault>
 
 // A draw: four lower-case hex digits, the high one first.
 // Every number of 16 bits is read back from its hex text: clause `reads_back`.
-#[tactic(auto, using(crate::proofs::ReadBack::draw_reads_back))]
+#[tactic(auto, using(crate::proofs::ReadBack::draw_reads_back, crate::proofs::OnlyRead::draw_only_read))]
 pub fn read_draw(field: &[u8]) -> Result<u16, FieldFault>
     ensures result { result ≡ draw_of field.now }
     ensures reads_back { DrawReadsBack }
+    ensures only { DrawOnlyRead }
 {
     let [a, b, c, d] = field else {
         return Err(FieldFault::Draw);

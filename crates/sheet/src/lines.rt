@@ -2,6 +2,7 @@
 ghost use Rattle.std.specs.Prelude.{◌≡◌, ◌≤◌, length};
 ghost use Rattle.parts.specs.Parts.{parted};
 ghost use Rattle.sheet.specs.Lines.{line_says, said_in, word_says};
+ghost use Rattle.sheet.specs.Worked.{LinesWorked};
 ghost use Rattle.typeb.specs.CheckBytes.{sealed};
 ghost use Rattle.typeb.specs.Messages.{bytes_of};
 
@@ -62,8 +63,11 @@ fn read_fields(word: Word, line: &[u8]) -> Result<Line, LineFault>
 }
 
 // What a line says: a known word, as many fields as it has, and each field in its form.
+// A table of lines, worked out by hand, agrees: clause `worked`.
+#[tactic(auto, using(crate::proofs::Worked::lines_worked))]
 pub fn read_line(line: &[u8]) -> Result<Line, LineFault>
-    ensures { said_in result ≡ line_says line.now }
+    ensures result { said_in result ≡ line_says line.now }
+    ensures worked { LinesWorked }
 {
     let word = Word::try_from(field(line, 0))?;
     if field_count(line) != word.field_count() {

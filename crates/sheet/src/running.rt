@@ -5,6 +5,7 @@ ghost use Rattle.parts.specs.Parts.{parted};
 ghost use Rattle.sheet.specs.Sheets.{Naming, before, stopped_at, lines_run, run_of, printed_of, refusal_of};
 ghost use Rattle.sheet.specs.Played.{SheetPlays};
 ghost use Rattle.sheet.specs.Views.{refused_by, refused_in, run_by, StoppedBy};
+ghost use Rattle.sheet.specs.Worked.{WorkedSheets};
 
 use crate::faults::LineFault;
 use crate::stages::{Named, Stage};
@@ -97,12 +98,13 @@ fn run_lines(heap: Global, sheet: &[u8]) -> Result<Ran, AllocError>
 
 // Runs a sheet: the text that it prints, the line of a refusal included, and why it was refused, if it was.
 // Want of memory is the only error. The text is that of the sheet's calls, put to the loaded tray one after
-// another up to the first refusal: clause `calls`.
-#[tactic(auto, using(crate::proofs::Playing::sheet_plays))]
+// another up to the first refusal: clause `calls`. Sheets worked out by hand print what was worked out: clause `worked`.
+#[tactic(auto, using(crate::proofs::Playing::sheet_plays, crate::proofs::Worked::worked_sheets))]
 pub fn run_sheet(heap: Global, sheet: &[u8]) -> Result<Ran, AllocError>
     ensures printed { IfOk result (λ ran. string_bytes ran.text ≡ printed_of sheet.now) }
     ensures refused { IfOk result (λ ran. refused_in ran.fault ≡ refusal_of sheet.now) }
     ensures calls { SheetPlays sheet.now }
+    ensures worked { WorkedSheets }
 {
     if sheet.len() > SHEET_MOST {
         return refuse(heap, String::new(heap), SheetFault::TooLong);

@@ -2,6 +2,7 @@
 ghost use Rattle.std.specs.Prelude.{◌≡◌, IfOk, Some};
 ghost use Rattle.std.specs.Fmt.{WritesOnOk};
 ghost use Rattle.vectors.specs.Judges.{flipped, verdict_of, other_words, verdict_words};
+ghost use Rattle.vectors.specs.Worked.{WorkedVerdicts};
 
 use hex_pairs::Hex;
 use std::alloc::{AllocError, Global};
@@ -49,9 +50,11 @@ pub fn flip_bit(frame: &mut Vec<u8>)
     }
 }
 
-// Judges the check bytes that are given for a body.
+// Judges the check bytes that are given for a body. Verdicts worked out by hand hold: clause `worked`.
+#[tactic(auto, using(crate::proofs::Worked::worked_verdicts))]
 pub fn judge(heap: Global, body: &[u8], check: [u8; 2]) -> Result<Verdict, AllocError>
-    ensures { IfOk result (λ v. v ≡ verdict_of body.now check) }
+    ensures result { IfOk result (λ v. v ≡ verdict_of body.now check) }
+    ensures worked { WorkedVerdicts }
 {
     let got = check_bytes(body);
     if got != check {

@@ -6,6 +6,7 @@ use Rattle.std.proofs.lemmas.List.{length_push}
 use Rattle.decode.specs.Lines.{line_bytes, lines_of}
 use Rattle.decode.specs.Report.{faulted, all_reports, all_faults}
 use Rattle.decode.proofs.Numbering.{turn, end, next_line, one_more, no_more}
+use Rattle.decode.proofs.Worked.{worked_texts}
 use Rattle.decode.proofs.decoding.decode_text.Goals as goal
 
 pub loop-i-preserved : goal.loop-i-preserved
@@ -27,4 +28,5 @@ returns c =
     record {
       reports = no_more (λ n ls. all_reports c.args.sealing ls) (lines_of c.args.text.now) (length c.loop-i.yielded) (string_bytes c.loop-i.decoded.reports) all refl ∙ c.loop-i.invariant.0;
       faults = no_more (λ n ls. all_faults (n + 1) ls) (lines_of c.args.text.now) (length c.loop-i.yielded) (string_bytes c.loop-i.decoded.faults) all refl ∙ c.loop-i.invariant.1;
+      worked = worked_texts;
     }

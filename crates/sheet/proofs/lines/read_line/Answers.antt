@@ -11,8 +11,8 @@ known : (o : Option Word) (word : Word) (fault : LineFault) → Ok word ≡ ok_o
 known (Some w) word fault e = cc
 known None word fault e = cc
 
-pub returns : goal.returns
-returns c =
+pub returns-clause-result : goal.returns-clause-result
+returns-clause-result c =
     let fields : List (List ℕ) = parted 44 c.args.line.now in
     let count : eqb (length fields) (field_count c.in_ok-word.word) ≡ true = eq-eqb _ _ (omega arith) in
     c.read_fields.ensures
