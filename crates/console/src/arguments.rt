@@ -47,6 +47,16 @@ pub fn read_args<T: Copy + Drop>(
     Ok(asked)
 }
 
+// Reads the command line of a program that reads no input: whether its help is asked for.
+pub fn asks_help(rt: &HostRuntime, program: &str) -> Result<bool, Failed> {
+    let asked = read_args(rt, program, &[("--help", true)])?;
+    if let Some(word) = &asked.input {
+        let why = format_args!("no FILE is read, and {word} is one; {program} --help says more");
+        return Err(stop(rt, program, why));
+    }
+    Ok(!asked.options.is_empty())
+}
+
 #[cfg(test)]
 mod tests {
     use super::*;

@@ -7,10 +7,36 @@ mod speaking;
 mod story;
 mod wording;
 
-use console::streams::{status, stop};
+use console::arguments::asks_help;
+use console::streams::{Failed, print_all, status, stop};
 use std::process::ExitCode;
 
-// The program stops with status 1 where it failed, and says why.
+const USAGE: &str = "\
+usage: scenario
+
+Tells a fixed story of a reader before a tray, one action a line: what the
+reader said or did, and what came of it. First one pump tag from its first
+request to its last, then three pump tags and two gauges at once, a stock of
+them, and calls that are refused. Bytes are hex pairs.
+
+  --help  print this text
+
+example, the first three lines:
+  $ scenario
+  one pump tag
+  field on: done
+  request, family 00, 1 slot: answer from 11223344
+";
+
+const NAME: &str = "scenario";
+
+fn run(rt: &HostRuntime) -> Result<(), Failed> {
+    if asks_help(rt, NAME)? {
+        return print_all(rt, NAME, USAGE.as_bytes());
+    }
+    story::tell(rt).map_err(|why| stop(rt, NAME, why))
+}
+
 fn main(rt: HostRuntime) -> ExitCode {
-    status(story::tell(&rt).map_err(|why| stop(&rt, "scenario", why)))
+    status(run(&rt))
 }

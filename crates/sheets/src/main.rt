@@ -1,10 +1,27 @@
 // Runs the example sheets and compares what each prints with the text that stands beside it.
 #![tactic(auto)]
 
-use console::streams::{Failed, status, stop};
+use console::arguments::asks_help;
+use console::streams::{Failed, print_all, status, stop};
 use sheet::running::run_sheet;
 use std::fs;
 use std::process::ExitCode;
+
+const USAGE: &str = "\
+usage: sheets
+
+Runs the four example sheets, NAME.sheet in the current folder, and compares
+what each prints with NAME.out. Status 1 at the first that differs.
+
+  --help  print this text
+
+example, in the folder examples/ of the repository:
+  $ ../run sheets
+  labelling agrees
+  closed-probed agrees
+  stock-of-40 agrees
+  refused agrees
+";
 
 const NAMES: [&str; 4] = ["labelling", "closed-probed", "stock-of-40", "refused"];
 
@@ -27,6 +44,9 @@ fn try_sheet(rt: &HostRuntime, name: &str) -> Result<(), Failed> {
 }
 
 fn run(rt: &HostRuntime) -> Result<(), Failed> {
+    if asks_help(rt, NAME)? {
+        return print_all(rt, NAME, USAGE.as_bytes());
+    }
     for name in NAMES {
         try_sheet(rt, name)?;
     }

@@ -35,7 +35,8 @@ decimal, of up to three digits, bytes are lower-case hex pairs.
 Tag and page lines come before the first call. Each call prints its line's
 number and ok, none, reply and its bytes, clash and how many answered, or
 stock with frames, rounds and clashes, then a line for each serial number.
-A refusal prints the line's number, refused and the refusal's number.
+A refusal prints the line's number, refused and the refusal's number; a
+message on standard error says what was wrong and what was expected.
 
   --help  print this text
 

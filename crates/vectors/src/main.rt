@@ -3,11 +3,28 @@
 
 mod judging;
 
-use console::streams::{Failed, status};
+use console::arguments::asks_help;
+use console::streams::{Failed, print_all, status, stop};
 use hex_pairs::Hex;
 use judging::{Verdict, judge};
 use std::io;
 use std::process::ExitCode;
+
+const USAGE: &str = "\
+usage: vectors
+
+Works out the check bytes of nine published frames. Prints of each its bytes,
+the check bytes that were published, and ok or what is wrong; then how many
+agree. Status 1 where not all do.
+
+  --help  print this text
+
+example:
+  $ vectors | tail -n 1
+  9 of 9 examples agree
+";
+
+const NAME: &str = "vectors";
 
 // A body and its check bytes, in the order in which they are sent.
 const EXAMPLES: [(&[u8], [u8; 2]); 9] = [
@@ -27,7 +44,8 @@ const EXAMPLES: [(&[u8], [u8; 2]); 9] = [
     (&[0x60, 0x00], [0x12, 0x6A]),
 ];
 
-fn run(rt: &HostRuntime) -> io::Result<()> {
+// Prints the verdict on each example. Answers whether all agree.
+fn judge_all(rt: &HostRuntime) -> io::Result<bool> {
     let total = EXAMPLES.len();
     let mut agree = 0;
     for (body, check) in EXAMPLES {
@@ -40,14 +58,21 @@ fn run(rt: &HostRuntime) -> io::Result<()> {
         println!(rt; "{frame} {given} {verdict}")?;
     }
     println!(rt; "{agree} of {total} examples agree")?;
-    if agree == total {
+    Ok(agree == total)
+}
+
+fn run(rt: &HostRuntime) -> Result<(), Failed> {
+    if asks_help(rt, NAME)? {
+        return print_all(rt, NAME, USAGE.as_bytes());
+    }
+    let agree = judge_all(rt).map_err(|e| stop(rt, NAME, e))?;
+    if agree {
         Ok(())
     } else {
-        Err(io::Error::from(io::ErrorKind::InvalidData))
+        Err(stop(rt, NAME, "an example does not agree"))
     }
 }
 
-// The program stops with status 1 where an example disagrees.
 fn main(rt: HostRuntime) -> ExitCode {
-    status(run(&rt).map_err(|_| Failed))
+    status(run(&rt))
 }
