@@ -1,4 +1,4 @@
--- Three stocks, worked out.
+-- The frames of a round, and four stocks, worked out.
 use Rattle.std.proofs.Common.{refl}
 use Rattle.typeb.specs.CheckBytes.{fold_bit, fold_bits, fold_byte, check_bytes, sound}
 use Rattle.typeb.specs.Hears.{heard}
@@ -7,4 +7,4 @@ use Rattle.tray_core.specs.Worked.{WorkedStocks}
 
 pub worked_stocks : WorkedStocks
 unfolding fold_bit fold_bits fold_byte check_bytes sound heard rounds stocktaking
-worked_stocks = record { none = refl; one = refl; its_serial = refl; woken = refl; two = refl; unlisted = refl }
+worked_stocks = record { waking = refl; later = refl; none = refl; one = refl; its_serial = refl; woken = refl; two = refl; unlisted = refl }
