@@ -1,6 +1,6 @@
 -- The law over every run: no sequence of calls shows what a closed tag hides, undoes a lock or loses a count;
 -- and a tag has power exactly when it is on the tray and the field is on.
-use Rattle.std.specs.Prelude.{◌≡◌, ℕ, zero, suc, ◌+◌, ◌<◌, ◌≤◌, Bool, true, false, cond, not, ◌&&◌, List, [], ◌∷◌, ◌++◌, map, length, replicate, Some, None, Ok, Option}
+use Rattle.std.specs.Prelude.{◌≡◌, ℕ, zero, suc, ◌+◌, ◌<◌, ◌≤◌, Bool, true, false, cond, not, ◌&&◌, List, [], ◌∷◌, ◌++◌, map, length, replicate, Some, None, Ok, Option, slice_get}
 use Rattle.typeb.specs.declared.frames.Op.TheVariants as op
 use Rattle.typeb.specs.Hears as hears
 use Rattle.typeb.specs.Hears.{Heard, heard}
@@ -12,7 +12,8 @@ use Rattle.tags.specs.Pump.{PumpMeaning, pump_acts, pump_obeys, page_of}
 use Rattle.tags.specs.Reacts.{says_to}
 use Rattle.tags.specs.Says.{Says, Answer, Card, Page, Acknowledged, Refused}
 use Rattle.tray_core.specs.Rows.{Post}
-use Rattle.tray_core.specs.Runs.{Turn, Which, turn, run, seen, NoCheck, Apart}
+use Rattle.tray_core.specs.Runs.{Turn, Which, turn, run, seen, accepts, NoCheck, Apart}
+use Rattle.tray_core.specs.Runs.{front as of_front, back as of_back}
 use Rattle.tray_core.specs.Step.{Asks, On, Off, Place, Lift, Frame, Stock, refused_by}
 use Rattle.tray_core.specs.Trays.{Model, present, loaded_with}
 
@@ -22,6 +23,15 @@ abbrev pub Hiding : {SF HF SB HB : Type 0} → Behaviour SF HF → Behaviour SB 
 Hiding {SF} {HF} {SB} {HB} F B =
     (w : Which) (t u : Model SF HF SB HB) (cs : List Turn) → Apart w t u → NoCheck F B w t cs → NoCheck F B w u cs
     → (seen F B t cs ≡ seen F B u cs) × Apart w (run F B t cs) (run F B u cs)
+
+-- A tag accepts a check in a frame exactly where the field is on, the tag is on the tray, and its own reaction to the frame accepts one.
+abbrev pub place_accepts : {S H : Type 0} → Behaviour S H → List ℕ → Option (Post S H) → Bool
+place_accepts b frame None = false
+place_accepts b frame (Some p) = cond p.here (b.hears frame p.tag).accepted false
+
+pub record AcceptsItself {SF HF SB HB : Type 0} (F : Behaviour SF HF) (B : Behaviour SB HB) : Type 0 where
+  pub in_front : (n : ℕ) (frame : List ℕ) (t : Model SF HF SB HB) → accepts F B (of_front n) frame t ≡ cond t.field (place_accepts F frame (slice_get t.front n)) false
+  pub behind : (n : ℕ) (frame : List ℕ) (t : Model SF HF SB HB) → accepts F B (of_back n) frame t ≡ cond t.field (place_accepts B frame (slice_get t.back n)) false
 
 -- A pump tag just made, from some image and draw number.
 pub record JustMade (m : PumpMeaning) : Type 0 where
@@ -167,6 +177,7 @@ module _ {S H : Type 0} (F : Behaviour S H) where
 -- The whole law, for a front and a back kind.
 pub record Law {SF HF SB HB : Type 0} (F : Behaviour SF HF) (B : Behaviour SB HB) : Type 0 where
   pub hiding : Hiding F B
+  pub accepting : AcceptsItself F B
   pub locks_in_front : LocksFront B
   pub locks_behind : LocksBack F
   pub counts_in_front : CountsFront B
