@@ -1,4 +1,4 @@
--- Which frames carry a data command, and which of those are no COUNT.
+-- Which frames carry a data command.
 use Rattle.std.proofs.Common.{◌≡◌, ℕ, ◌-◌, ◌/◌, ◌%◌, false, ◌&&◌, eqb, ltb, leb, List, length, drop, Some, None, Option, sym, refl, ap, ◌∙◌, subst, arith}
 use Rattle.std.proofs.lemmas.List.{length-drop, take_at}
 use Rattle.std.proofs.lemmas.Bool.{cond_both, eqb-true}
@@ -7,6 +7,7 @@ use Rattle.typeb.specs.declared.frames.Slots.{Slots}
 use Rattle.typeb.specs.declared.frames.Op.{Op}
 use Rattle.typeb.specs.Hears.{Heard, Request, SlotMarker, Attrib, Halt, Command, heard, in_body, at, request_of, command_of, slots_of, op_of}
 use Rattle.typeb.proofs.Buffers.{length_sealed}
+use Rattle.tags.specs.Conduct.{is_check}
 use Rattle.tray_core.specs.Laws.{is_count}
 
 -- a frame for the link
@@ -61,34 +62,36 @@ eight_heard frame =
     (of_body Eight tt eight_link (body_of frame)
     (λ ten. eight_command _ _ (drop 2 (body_of frame)) _ (length-drop 2 (body_of frame) ∙ ap (λ (n : ℕ). n - 2) ten)))
 
--- a sealed body that has not ten bytes, or not the head of a COUNT, carries no COUNT
-abbrev NoCount : Option Heard → Type 0
-NoCount o = is_count o ≡ false
-
-plain_link : (frame : Heard) → ForLink frame → NoCount (Some frame)
-plain_link (Request family wake_up slots) h = refl
-plain_link (SlotMarker slot) h = refl
-plain_link (Attrib serial params inf) h = refl
-plain_link (Halt serial) h = refl
-plain_link (Command op cid address bytes) h = absurd h
-
-plain_command : (cid address : ℕ) (bytes : List ℕ) (nibble : ℕ) → (nibble ≡ 0xE → ⊥) → NoCount (command_of cid address bytes (op_of nibble))
-plain_command cid address bytes nibble other =
-    let P : Option Op → Type 0 = λ op. NoCount (command_of cid address bytes op) in
-    cond_both (eqb nibble 0x4) _ _ P (λ _. refl)
-    (λ _. cond_both (eqb nibble 0x3) _ _ P (λ _. refl)
-    (λ _. cond_both (eqb nibble 0x2) _ _ P (λ _. refl)
-    (λ _. cond_both (eqb nibble 0x6) _ _ P (λ _. refl)
-    (λ _. cond_both (eqb nibble 0xA) _ _ P (λ _. refl)
-    (λ _. cond_both (eqb nibble 0xE) _ _ P (λ e. absurd (other (eqb-true _ _ e))) (λ _. refl))))))
-
 body_sealed : (body : List ℕ) → body_of (sealed body) ≡ body
 body_sealed body =
     let long = length_sealed body in
     take_at body (check_bytes body) (length (sealed body) - 2) (omega arith)
 
-pub no_count : (body : List ℕ) → (length body ≡ 10 → at 0 body / 16 ≡ 0xE → ⊥) → is_count (heard (sealed body)) ≡ false
-no_count body other =
-    of_heard NoCount refl plain_link (sealed body)
-    (subst (λ (b : List ℕ). NoCount (in_body b)) (sym (body_sealed body))
-    (of_body NoCount refl plain_link body (λ ten. plain_command _ _ _ (at 0 body / 16) (other ten))))
+-- a sealed body that has not ten bytes, or not the head of a data command, carries none
+abbrev pub Plain : Option Heard → Type 0
+Plain (Some frame) = ForLink frame
+Plain None = Unit {0}
+
+pub no_command : (body : List ℕ) → (length body ≡ 10 → op_of (at 0 body / 16) ≡ None) → Plain (heard (sealed body))
+no_command body other =
+    of_heard Plain tt (λ frame h. h) (sealed body)
+    (subst (λ (b : List ℕ). Plain (in_body b)) (sym (body_sealed body))
+    (of_body Plain tt (λ frame h. h) body
+    (λ ten. subst (λ (op : Option Op). Plain (command_of (at 0 body % 16) (at 1 body) (drop 2 body) op)) (sym (other ten)) tt)))
+
+-- and so neither a COUNT nor a CHECK PASSWORD
+pub no_count : (o : Option Heard) → Plain o → is_count o ≡ false
+no_count (Some (Request family wake_up slots)) h = refl
+no_count (Some (SlotMarker slot)) h = refl
+no_count (Some (Attrib serial params inf)) h = refl
+no_count (Some (Halt serial)) h = refl
+no_count (Some (Command op cid address bytes)) h = absurd h
+no_count None h = refl
+
+pub no_check : (o : Option Heard) → Plain o → is_check o ≡ false
+no_check (Some (Request family wake_up slots)) h = refl
+no_check (Some (SlotMarker slot)) h = refl
+no_check (Some (Attrib serial params inf)) h = refl
+no_check (Some (Halt serial)) h = refl
+no_check (Some (Command op cid address bytes)) h = absurd h
+no_check None h = refl

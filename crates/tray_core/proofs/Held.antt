@@ -1,5 +1,6 @@
 -- Runs: what every call keeps of the pump tags in one row of a tray.
 use Rattle.std.proofs.Common.{◌≡◌, ℕ, ◌+◌, ◌&&◌, List, [], ◌∷◌, ◌++◌, Some, None, Option, sym, refl, subst}
+use Rattle.typeb.specs.Hears.{heard}
 use Rattle.tags.specs.Kinds.{Behaviour}
 use Rattle.tags.proofs.Moves.{Good, Moves, moves_serial, moves_trans}
 use Rattle.tray_core.specs.Laws.{Kept, Counted, pump_at, here_at, brings}
@@ -8,6 +9,7 @@ use Rattle.tray_core.specs.Scripts.{Script, done, send, after_play}
 use Rattle.tray_core.specs.Step.{Asks, On, Off, Place, Lift, Frame, Stock, refused_by, unless_refused}
 use Rattle.tray_core.specs.Stock.{stocktaking}
 use Rattle.tray_core.specs.Trays.{Model, turned_on, turned_off, with_placed, with_lifted, after_frame, sounds_of}
+use Rattle.tray_core.proofs.CountFrames.{no_count}
 use Rattle.tray_core.proofs.Mild.{Mild, mild_stock}
 use Rattle.tray_core.proofs.Pumps.{still}
 use Rattle.tray_core.proofs.PumpRows.{Pumps, Quiet, Hearing, quiet_same, quiet_trans, quiet_frame}
@@ -40,7 +42,7 @@ module _ {SF HF SB HB : Type 0} (F : Behaviour SF HF) (B : Behaviour SB HB) (row
     plays (done a) mild t = quiet_same (row t)
     plays (send frame next) mild t =
         quiet_trans (row t) (row (after_frame F B frame t)) _
-        (quiet_frame frame t.field (row t) (row (after_frame F B frame t)) mild.0 (rowed.hearing frame t))
+        (quiet_frame frame t.field (row t) (row (after_frame F B frame t)) (no_count (heard frame) mild.0) (rowed.hearing frame t))
         (plays (next (sounds_of F B frame t)) (mild.1 (sounds_of F B frame t)) (after_frame F B frame t))
 
     called : (o : Option ℕ) (c : Asks) (t : Model SF HF SB HB) (buffer : List ℕ) (list : List (List ℕ)) (n : ℕ) → Good (pump_at n (row t))

@@ -6,6 +6,7 @@ use Rattle.tray_core.specs.Rows.{Post, accepts_at}
 use Rattle.tray_core.specs.Trays.{present}
 use Rattle.tray_core.proofs.HiddenPart.{hiding}
 use Rattle.tray_core.proofs.Locked.{locks_front, locks_back, counts_front_lem, counts_back_lem}
+use Rattle.tray_core.proofs.Unchecked.{unchecked_front, unchecked_back}
 use Rattle.tray_core.proofs.Powered.{power_front, power_back}
 
 all_here : {S H : Type 0} (tags : List (Meaning S H)) → AllHere (map present tags)
@@ -29,6 +30,8 @@ lawful F B front back =
     record {
       hiding = hiding F B front back;
       accepting = accepts_itself F B;
+      unchecked_in_front = unchecked_front B;
+      unchecked_behind = unchecked_back F;
       locks_in_front = locks_front B;
       locks_behind = locks_back F;
       counts_in_front = counts_front_lem B;

@@ -16,5 +16,6 @@ pub mod Stocked
 pub mod Tallies
 pub mod Worked
 pub mod Powered
+pub mod Unchecked
 pub mod Stepping
 pub mod Lawful

@@ -11,7 +11,8 @@ use Rattle.tags.specs.Pump.{PumpMeaning, pump_acts, pump_obeys, page_of, asks, p
 use Rattle.tags.specs.Reacts.{Reaction, answered, says_at}
 use Rattle.tags.specs.Rules.{reading_of, writing_of, ever_read, read_now, by_write}
 use Rattle.tags.proofs.Moves.{Good, Moves, moves_same, written_moves, locked_moves, counted_moves}
-use Rattle.tray_core.specs.Laws.{is_count, is_ack, counts_now}
+use Rattle.tags.specs.Conduct.{acknowledges}
+use Rattle.tray_core.specs.Laws.{is_count, counts_now}
 use Rattle.tray_core.proofs.CountFrames.{Eight, eight_heard}
 
 -- a page that WRITE writes is neither page 0 nor page 2
@@ -24,7 +25,7 @@ module _ (m : PumpMeaning) (good : Good m) where
 
   -- a reaction, to a COUNT or to another command
   abbrev Fair : Bool → Reaction PumpMeaning → Type 0
-  Fair counting r = Moves m r.after (cond (counting && is_ack r.says) 1 0)
+  Fair counting r = Moves m r.after (cond (counting && acknowledges r.says) 1 0)
 
   unacknowledged : (counting : Bool) → Moves m m (cond (counting && false) 1 0)
   unacknowledged true = still
@@ -53,7 +54,7 @@ module _ (m : PumpMeaning) (good : Good m) where
       (λ room. counted_moves m good bytes eight (eqb-true _ _ clear) (ltb-true _ _ room))))
 
   answers : (o : Option Heard) → Eight o
-      → Moves m (answered (reacts_by pump_obeys) m o).after (cond (is_count o && is_ack (says_at (reacts_by pump_obeys) m o)) 1 0)
+      → Moves m (answered (reacts_by pump_obeys) m o).after (cond (is_count o && acknowledges (says_at (reacts_by pump_obeys) m o)) 1 0)
   answers (Some (Request family wake_up slots)) eight = moves_same m _ m.opened good
   answers (Some (SlotMarker slot)) eight = moves_same m _ m.opened good
   answers (Some (Attrib serial params inf)) eight = moves_same m _ m.opened good

@@ -6,11 +6,11 @@ use Rattle.typeb.specs.Hears as hears
 use Rattle.typeb.specs.Hears.{Heard, heard}
 use Rattle.tags.specs.Kinds.{Meaning, Behaviour}
 use Rattle.tags.specs.Common.{Shown, is_off_tag, reacts_by}
+use Rattle.tags.specs.Conduct.{acknowledges, is_check}
 use Rattle.tags.specs.Making.{new_pump, pump_made}
 use Rattle.tags.specs.Pages.{lock_bit, counter_in, serial_in}
 use Rattle.tags.specs.Pump.{PumpMeaning, pump_acts, pump_obeys, page_of}
 use Rattle.tags.specs.Reacts.{says_to}
-use Rattle.tags.specs.Says.{Says, Answer, Card, Page, Acknowledged, Refused}
 use Rattle.tray_core.specs.Rows.{Post}
 use Rattle.tray_core.specs.Runs.{Turn, Which, turn, run, seen, accepts, NoCheck, Apart}
 use Rattle.tray_core.specs.Runs.{front as of_front, back as of_back}
@@ -32,6 +32,19 @@ place_accepts b frame (Some p) = cond p.here (b.hears frame p.tag).accepted fals
 pub record AcceptsItself {SF HF SB HB : Type 0} (F : Behaviour SF HF) (B : Behaviour SB HB) : Type 0 where
   pub in_front : (n : ℕ) (frame : List ℕ) (t : Model SF HF SB HB) → accepts F B (of_front n) frame t ≡ cond t.field (place_accepts F frame (slice_get t.front n)) false
   pub behind : (n : ℕ) (frame : List ℕ) (t : Model SF HF SB HB) → accepts F B (of_back n) frame t ≡ cond t.field (place_accepts B frame (slice_get t.back n)) false
+
+-- A run that sends no CHECK PASSWORD: none of its frames is one. (A stock sends none.)
+abbrev pub sends_check : Asks → Bool
+sends_check On = false
+sends_check Off = false
+sends_check (Place n) = false
+sends_check (Lift n) = false
+sends_check (Frame frame) = is_check (heard frame)
+sends_check Stock = false
+
+abbrev pub NoneSent : List Turn → Type 0
+NoneSent [] = Unit {0}
+NoneSent (c ∷ more) = (sends_check c.call ≡ false) × NoneSent more
 
 -- A pump tag just made, from some image and draw number.
 pub record JustMade (m : PumpMeaning) : Type 0 where
@@ -73,16 +86,8 @@ is_count (Some (hears.Command op.Deselect cid address bytes)) = false
 is_count (Some (hears.Command op.Count cid address bytes)) = true
 is_count None = false
 
-abbrev pub is_ack : Option Says → Bool
-is_ack (Some (Answer serial application protocol)) = false
-is_ack (Some (Card cid)) = false
-is_ack (Some (Page bytes)) = false
-is_ack (Some Acknowledged) = true
-is_ack (Some (Refused code)) = false
-is_ack None = false
-
 abbrev pub counts_now : List ℕ → PumpMeaning → Bool
-counts_now frame m = is_count (heard frame) && is_ack (says_to (reacts_by pump_obeys) frame m)
+counts_now frame m = is_count (heard frame) && acknowledges (says_to (reacts_by pump_obeys) frame m)
 
 -- Whether a call brings such a COUNT to a tag that has power; a refused call brings nothing.
 abbrev pub brings : Option ℕ → Asks → Bool → PumpMeaning → ℕ
@@ -138,6 +143,10 @@ module _ {S H : Type 0} (B : Behaviour S H) where
       (t : Model Shown (List ℕ) S H) → LoadedFront t → (n : ℕ) → n < length t.front → (cs : List Turn)
       → is_off_tag (pump_at n (run pump_acts B t cs).front).shown ≡ not ((run pump_acts B t cs).field && here_at n (run pump_acts B t cs).front)
 
+  -- In a run that sends no CHECK PASSWORD no pump tag accepts a check.
+  abbrev pub UncheckedFront : Type 0
+  UncheckedFront = (t : Model Shown (List ℕ) S H) (n : ℕ) (cs : List Turn) → NoneSent cs → NoCheck pump_acts B (of_front n) t cs
+
   -- Such a tray is loaded of any pump tags just made, and of any tags behind them.
   abbrev pub LoadsFront : Type 0
   LoadsFront = (front : List PumpMeaning) (back : List (Meaning S H)) → AllMade (map present front) → LoadedFront (loaded_with front back)
@@ -171,6 +180,9 @@ module _ {S H : Type 0} (F : Behaviour S H) where
       (t : Model S H Shown (List ℕ)) → LoadedBack t → (n : ℕ) → n < length t.back → (cs : List Turn)
       → is_off_tag (pump_at n (run F pump_acts t cs).back).shown ≡ not ((run F pump_acts t cs).field && here_at n (run F pump_acts t cs).back)
 
+  abbrev pub UncheckedBack : Type 0
+  UncheckedBack = (t : Model S H Shown (List ℕ)) (n : ℕ) (cs : List Turn) → NoneSent cs → NoCheck F pump_acts (of_back n) t cs
+
   abbrev pub LoadsBack : Type 0
   LoadsBack = (front : List (Meaning S H)) (back : List PumpMeaning) → AllMade (map present back) → LoadedBack (loaded_with front back)
 
@@ -178,6 +190,8 @@ module _ {S H : Type 0} (F : Behaviour S H) where
 pub record Law {SF HF SB HB : Type 0} (F : Behaviour SF HF) (B : Behaviour SB HB) : Type 0 where
   pub hiding : Hiding F B
   pub accepting : AcceptsItself F B
+  pub unchecked_in_front : UncheckedFront B
+  pub unchecked_behind : UncheckedBack F
   pub locks_in_front : LocksFront B
   pub locks_behind : LocksBack F
   pub counts_in_front : CountsFront B
