@@ -112,7 +112,8 @@ impl Link {
         }
     }
 
-    // Hears for a tag whose memory begins with serial number and application data.
+    // Hears for a tag whose memory begins with serial number and application data. Every tag does so with every frame but a
+    // data command, hence the hint here and at `hear`.
     #[inline(always)]
     pub(crate) fn hear_for(&mut self, told: Frame<'_>, memory: &[u8]) -> Option<Said>
         requires { 16 ≤ length memory.now }

@@ -141,7 +141,7 @@ fn put_status(echo: Option<Echo>, status: u8, reply: &mut [u8; 16]) -> usize
     }
 }
 
-// What is said, behind what is repeated of the frame.
+// What is said, behind what is repeated of the frame. It stays out of the loop over the tags, where few say anything.
 #[inline(never)]
 fn put_said(echo: Option<Echo>, said: Said, reply: &mut [u8; 16]) -> usize
     ensures { Placed (sealed (said_body (repeated echo) (page_repeated echo) (says_of said))) reply.old reply.new result }
