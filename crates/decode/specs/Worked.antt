@@ -1,11 +1,7 @@
 -- Texts worked out by hand: their reports, and the messages for lines that are no hex.
 use Rattle.std.specs.Prelude.{◌≡◌, ℕ, true, false, List, [], ◌∷◌, ◌++◌, replicate, codes}
+use Rattle.parts.specs.Parts.{lined}
 use Rattle.decode.specs.Report.{reports_of, faults_of}
-
--- Lines as a text, each ended by LF.
-abbrev pub lined : List (List ℕ) → List ℕ
-lined [] = []
-lined (line ∷ lines) = line ++ (10 ∷ lined lines)
 
 -- Every kind of frame, and frames that are not heard.
 abbrev pub frames : List (List ℕ)

@@ -1,5 +1,5 @@
 -- Texts that are cut at a mark: LF parts lines, a comma parts fields.
-use Rattle.std.specs.Prelude.{◌≡◌, ℕ, ◌+◌, List, [], ◌∷◌, length, map, take, codes, ◌==◌, slice_index_or}
+use Rattle.std.specs.Prelude.{◌≡◌, ℕ, ◌+◌, List, [], ◌∷◌, ◌++◌, length, map, take, codes, ◌==◌, slice_index_or}
 use Rattle.std.specs.List.{slice_split, position_or_len, join_with_byte, count_by}
 
 -- The parts of a text between marks. A mark at the end leaves an empty part.
@@ -9,6 +9,11 @@ parted mark text = slice_split (λ c. c == mark) text
 -- How long the first part is.
 abbrev pub first_length : ℕ → List ℕ → ℕ
 first_length mark text = position_or_len (λ c. c == mark) text
+
+-- Lines as a text, each ended by LF.
+abbrev pub lined : List (List ℕ) → List ℕ
+lined [] = []
+lined (line ∷ lines) = line ++ (10 ∷ lined lines)
 
 -- A part by its number from 0; empty where there is none.
 abbrev pub field_at : ℕ → List (List ℕ) → List ℕ

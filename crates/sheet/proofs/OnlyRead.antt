@@ -23,7 +23,7 @@ record DrawText (field : List ℕ) (draw : ℕ) : Type 0 where
 
 some_of : {A : Type 0} (o : Option A) (f : FieldFault) (x : A) → ok_or o f ≡ Ok x → o ≡ Some x
 some_of (Some y) f x e = cc
-some_of None f x e = let z : ◌≡◌ {A = ℕ} 0 1 = cc in absurd (omega arith)
+some_of None f x e = absurd cc
 
 -- a field does not give a value and a fault
 not_both : {A : Type 0} (r : Result A FieldFault) (why : FieldFault) (x : A) → r ≡ Err why → r ≡ Ok x → ◌≡◌ {A = ℕ} 0 1
@@ -41,8 +41,8 @@ first_case true true v c rest n l h e =
     let low : 48 ≤ c = leb-true 48 c l in
     let high : c ≤ 57 = leb-true c 57 h in
     record { digit = c - 48; small = omega arith; same = omega arith; after = e }
-first_case true false v c rest n l h e = let z : ◌≡◌ {A = ℕ} 0 1 = cc in absurd (omega arith)
-first_case false b' v c rest n l h e = let z : ◌≡◌ {A = ℕ} 0 1 = cc in absurd (omega arith)
+first_case true false v c rest n l h e = absurd cc
+first_case false b' v c rest n l h e = absurd cc
 
 first : (v c : ℕ) (rest : List ℕ) (n : ℕ) → digits_after v (c ∷ rest) ≡ Some n → First v c rest n
 first v c rest n e = first_case _ _ v c rest n refl refl e
@@ -59,7 +59,7 @@ one_read a n e =
     record { below = omega arith; text = ap (λ (k : ℕ). k ∷ []) same ∙ sym (decimal_digit n (omega arith)) }
 
 two_read : (front : Bool) (a b n : ℕ) → eqb a 48 ≡ front → cond (not front) (ok_or (digits_after 0 (a ∷ b ∷ [])) fault.Number) (Err fault.Number) ≡ Ok n → NumberText (a ∷ b ∷ []) n
-two_read true a b n q e = let z : ◌≡◌ {A = ℕ} 0 1 = cc in absurd (omega arith)
+two_read true a b n q e = absurd cc
 two_read false a b n q e =
     let f = first 0 a (b ∷ []) n (some_of _ _ n e) in
     let g = first _ b [] n f.after in
@@ -72,7 +72,7 @@ two_read false a b n q e =
     record { below = omega arith; text = ap₂ (λ (j k : ℕ). j ∷ k ∷ []) high low ∙ sym (decimal_two n (omega arith) (omega arith)) }
 
 three_read : (front : Bool) (a b c n : ℕ) → eqb a 48 ≡ front → cond (not front) (ok_or (digits_after 0 (a ∷ b ∷ c ∷ [])) fault.Number) (Err fault.Number) ≡ Ok n → NumberText (a ∷ b ∷ c ∷ []) n
-three_read true a b c n q e = let z : ◌≡◌ {A = ℕ} 0 1 = cc in absurd (omega arith)
+three_read true a b c n q e = absurd cc
 three_read false a b c n q e =
     let f = first 0 a (b ∷ c ∷ []) n (some_of _ _ n e) in
     let g = first _ b (c ∷ []) n f.after in
@@ -93,7 +93,7 @@ second_fails true false b'' e = refl
 second_fails false b' b'' e = refl
 
 number_text : (field : List ℕ) (n : ℕ) → number_of field ≡ Ok n → NumberText field n
-number_text [] n e = let z : ◌≡◌ {A = ℕ} 0 1 = cc in absurd (omega arith)
+number_text [] n e = absurd cc
 number_text (a ∷ []) n e = one_read a n (some_of _ _ n e)
 number_text (a ∷ b ∷ []) n e = two_read _ a b n refl e
 number_text (a ∷ b ∷ c ∷ []) n e = three_read _ a b c n refl e
@@ -108,7 +108,7 @@ number_only_read = record { below = λ field n e. (number_text field n e).below;
 
 bytes_case : (b : Bool) (field bytes : List ℕ) → cond b (ok_or (hex_bytes field) fault.Bytes) (Err fault.Bytes) ≡ Ok bytes → hex_bytes field ≡ Some bytes
 bytes_case true field bytes e = some_of _ _ bytes e
-bytes_case false field bytes e = let z : ◌≡◌ {A = ℕ} 0 1 = cc in absurd (omega arith)
+bytes_case false field bytes e = absurd cc
 
 pub bytes_only_read : BytesOnlyRead
 bytes_only_read =
@@ -128,8 +128,8 @@ word_bytes (Some x) (Some y) field draw e p q w =
     let high : x ≡ draw / 256 = omega arith in
     let low : y ≡ draw % 256 = omega arith in
     record { below = omega arith; text = sym (only_written field (x ∷ y ∷ []) e) ∙ ap₂ (λ (j k : ℕ). hex_text (j ∷ k ∷ [])) high low }
-word_bytes (Some x) None field draw e p q w = let z : ◌≡◌ {A = ℕ} 0 1 = cc in absurd (omega arith)
-word_bytes None l field draw e p q w = let z : ◌≡◌ {A = ℕ} 0 1 = cc in absurd (omega arith)
+word_bytes (Some x) None field draw e p q w = absurd cc
+word_bytes None l field draw e p q w = absurd cc
 
 digit_below : (c v : ℕ) → digit_value c ≡ Some v → v < 16
 digit_below c v e = grind (arith, nat_tests)
@@ -140,14 +140,14 @@ byte_below (Some a) (Some b) v p q e =
     let small : a < 16 = p a refl in
     let tiny : b < 16 = q b refl in
     omega arith
-byte_below (Some a) None v p q e = let z : ◌≡◌ {A = ℕ} 0 1 = cc in absurd (omega arith)
-byte_below None y v p q e = let z : ◌≡◌ {A = ℕ} 0 1 = cc in absurd (omega arith)
+byte_below (Some a) None v p q e = absurd cc
+byte_below None y v p q e = absurd cc
 
 draw_text : (field : List ℕ) (draw : ℕ) → draw_of field ≡ Ok draw → DrawText field draw
-draw_text [] draw e = let z : ◌≡◌ {A = ℕ} 0 1 = cc in absurd (omega arith)
-draw_text (a ∷ []) draw e = let z : ◌≡◌ {A = ℕ} 0 1 = cc in absurd (omega arith)
-draw_text (a ∷ b ∷ []) draw e = let z : ◌≡◌ {A = ℕ} 0 1 = cc in absurd (omega arith)
-draw_text (a ∷ b ∷ c ∷ []) draw e = let z : ◌≡◌ {A = ℕ} 0 1 = cc in absurd (omega arith)
+draw_text [] draw e = absurd cc
+draw_text (a ∷ []) draw e = absurd cc
+draw_text (a ∷ b ∷ []) draw e = absurd cc
+draw_text (a ∷ b ∷ c ∷ []) draw e = absurd cc
 draw_text (a ∷ b ∷ c ∷ d ∷ []) draw e =
     word_bytes (byte_of (digit_value a) (digit_value b)) (byte_of (digit_value c) (digit_value d)) (a ∷ b ∷ c ∷ d ∷ []) draw refl
     (λ v s. byte_below _ _ v (λ k g. digit_below a k g) (λ k g. digit_below b k g) s)

@@ -6,7 +6,8 @@ use Rattle.typeb.specs.CheckBytes.{fold_bit, fold_bits, fold_byte, check_bytes, 
 use Rattle.typeb.specs.Hears.{heard}
 use Rattle.tray_core.specs.Stock.{rounds, stocktaking}
 use Rattle.sheet.specs.Sheets.{Run, printed_of, stopped_at}
-use Rattle.sheet.specs.Worked.{LinesWorked, RefusalsWorked, WorkedSheets, lined, one_tag, one_tag_prints, three_tags, three_tags_print}
+use Rattle.parts.specs.Parts.{lined}
+use Rattle.sheet.specs.Worked.{LinesWorked, RefusalsWorked, WorkedSheets, one_tag, one_tag_prints, three_tags, three_tags_print}
 
 pub lines_worked : LinesWorked
 unfolding fold_bit fold_bits fold_byte check_bytes

@@ -1,5 +1,6 @@
 -- Lines and sheets worked out by hand: what each line says, and what each sheet prints, to the last byte.
 use Rattle.std.specs.Prelude.{◌≡◌, ℕ, ◌<◌, List, [], ◌∷◌, ◌++◌, map, length, replicate, Ok, Err, Result, codes}
+use Rattle.parts.specs.Parts.{lined}
 use Rattle.typeb.specs.CheckBytes.{sealed}
 use Rattle.tray_core.specs.Step.{On, Off, Place, Lift, Frame, Stock}
 use Rattle.sheet.specs.declared.faults.FieldFault.TheVariants as field
@@ -60,11 +61,6 @@ lines =
 -- Every row agrees.
 abbrev pub LinesWorked : Type 0
 LinesWorked = map (λ (l : Line). line_says l.text) lines ≡ map (λ (l : Line). l.says) lines
-
--- Lines as a text, each ended by LF.
-abbrev pub lined : List (List ℕ) → List ℕ
-lined [] = []
-lined (line ∷ lines) = line ++ (10 ∷ lined lines)
 
 -- One pump tag, its field on: a request for one slot is answered, ATTRIB for card 0 too; READ of page 4 is refused while the tag
 -- is closed, the password of all zeros is acknowledged.
