@@ -12,3 +12,4 @@ mod sounds;
 mod speaking;
 pub mod stock;
 pub mod tray;
+mod walking;
