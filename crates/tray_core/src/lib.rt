@@ -3,7 +3,6 @@
 
 pub mod calls;
 pub mod frames;
-pub mod handling;
 mod hearing;
 mod progress;
 mod row;

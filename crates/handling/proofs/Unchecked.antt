@@ -1,30 +1,31 @@
 -- In a run that sends no CHECK PASSWORD no pump tag accepts a check.
-use Rattle.std.proofs.Common.{◌≡◌, ℕ, zero, suc, Bool, false, List, [], ◌∷◌, Some, None, Option, refl, ◌∙◌}
-use Rattle.std.proofs.lemmas.Bool.{cond_both, and_left}
+use Rattle.std.proofs.Common.{◌≡◌, ℕ, zero, suc, Bool, false, List, [], ◌∷◌, Some, None, Option, slice_get, refl, ◌∙◌}
+use Rattle.std.proofs.lemmas.Bool.{and_left, and_right}
 use Rattle.typeb.specs.Hears.{heard}
+use Rattle.tags.specs.Common.{Shown}
 use Rattle.tags.specs.Conduct.{is_check}
 use Rattle.tags.specs.Kinds.{Behaviour}
 use Rattle.tags.specs.Pump.{PumpMeaning, pump_acts}
 use Rattle.tags.proofs.Conducts.{conduct}
-use Rattle.tray_core.specs.Laws.{NoneSent, UncheckedFront, UncheckedBack, sends_check}
-use Rattle.tray_core.specs.Rows.{accepts_at}
-use Rattle.tray_core.specs.Runs.{Turn, Which, front, back, turn, accepts, NoneInScript, NoneInCall, NoCheck}
+use Rattle.handling.specs.Laws.{NoneSent, UncheckedFront, UncheckedBack, sends_check}
+use Rattle.tray_core.specs.Hiding.{Which, front, back, accepts, place_accepts, NoneInScript, NoneInCall, NoCheck}
+use Rattle.tray_core.specs.Rows.{Post}
+use Rattle.tray_core.specs.Runs.{Turn, turn}
 use Rattle.tray_core.specs.Scripts.{Script, done, send}
 use Rattle.tray_core.specs.Step.{Asks, On, Off, Place, Lift, Frame, Stock, refused_by}
 use Rattle.tray_core.specs.Stock.{stocktaking}
 use Rattle.tray_core.specs.Trays.{Model, after_frame, sounds_of}
-use Rattle.tray_core.proofs.CountFrames.{no_check}
-use Rattle.tray_core.proofs.Mild.{Mild, mild_stock}
-use Rattle.tray_core.proofs.PumpRows.{Pumps}
+use Rattle.handling.proofs.CountFrames.{no_check}
+use Rattle.handling.proofs.Mild.{Mild, mild_stock}
+use Rattle.handling.proofs.PumpRows.{Pumps}
 
 -- a tag, and a row
 accepts_none : (frame : List ℕ) → is_check (heard frame) ≡ false → (m : PumpMeaning) → (pump_acts.hears frame m).accepted ≡ false
 accepts_none frame plain m = conduct.accepting frame m ∙ and_left (is_check (heard frame)) _ plain
 
-place_none : (n : ℕ) (frame : List ℕ) → is_check (heard frame) ≡ false → (row : Pumps) → accepts_at pump_acts n frame row ≡ false
-place_none n frame plain [] = refl
-place_none zero frame plain (p ∷ row) = cond_both p.here _ _ (λ (b : Bool). b ≡ false) (λ _. accepts_none frame plain p.tag) (λ _. refl)
-place_none (suc n) frame plain (p ∷ row) = place_none n frame plain row
+place_none : (frame : List ℕ) → is_check (heard frame) ≡ false → (o : Option (Post Shown (List ℕ))) → place_accepts pump_acts frame o ≡ false
+place_none frame plain None = refl
+place_none frame plain (Some p) = and_right p.here _ (accepts_none frame plain p.tag)
 
 -- a script, a call, a run
 module _ {SF HF SB HB : Type 0} (F : Behaviour SF HF) (B : Behaviour SB HB) (w : Which)
@@ -49,8 +50,8 @@ module _ {SF HF SB HB : Type 0} (F : Behaviour SF HF) (B : Behaviour SB HB) (w :
 
 pub unchecked_front : {S H : Type 0} (B : Behaviour S H) → UncheckedFront B
 unchecked_front B t n cs sent =
-    in_run pump_acts B (front n) (λ frame plain u. cond_both u.field _ _ (λ (b : Bool). b ≡ false) (λ _. place_none n frame plain u.front) (λ _. refl)) t cs sent
+    in_run pump_acts B (front n) (λ frame plain u. and_right u.field _ (place_none frame plain (slice_get u.front n))) t cs sent
 
 pub unchecked_back : {S H : Type 0} (F : Behaviour S H) → UncheckedBack F
 unchecked_back F t n cs sent =
-    in_run F pump_acts (back n) (λ frame plain u. cond_both u.field _ _ (λ (b : Bool). b ≡ false) (λ _. place_none n frame plain u.back) (λ _. refl)) t cs sent
+    in_run F pump_acts (back n) (λ frame plain u. and_right u.field _ (place_none frame plain (slice_get u.back n))) t cs sent

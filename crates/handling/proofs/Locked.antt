@@ -2,10 +2,10 @@
 use Rattle.std.proofs.Common.{◌-◌, Bool, true, false, cond, refl}
 use Rattle.tags.specs.Kinds.{Behaviour}
 use Rattle.tags.specs.Pump.{pump_acts}
-use Rattle.tray_core.specs.Laws.{LocksFront, LocksBack, CountsFront, CountsBack, counts_front, counts_back}
+use Rattle.handling.specs.Laws.{LocksFront, LocksBack, CountsFront, CountsBack, counts_front, counts_back}
 use Rattle.tray_core.specs.Trays.{in_front}
-use Rattle.tray_core.proofs.Held.{Rowed, kept, counted}
-use Rattle.tray_core.proofs.PumpRows.{Pumps, front, back, Quiet, Hearing, made_row, quiet_same, quiet_gains, quiet_loses, quiet_placed, quiet_lifted, row_hears_lem, row_deaf}
+use Rattle.handling.proofs.Held.{Rowed, kept, counted}
+use Rattle.handling.proofs.PumpRows.{Pumps, front, back, Quiet, Hearing, made_row, quiet_same, quiet_gains, quiet_loses, quiet_placed, quiet_lifted, row_hears_lem, row_deaf}
 
 -- the row of the tray that a test picks
 picked : {T : Type 0} (row : T → Pumps) (P : Bool → Pumps → Type 0) (test : Bool) (t u : T) → P true (row t) → P false (row u) → P test (row (cond test t u))

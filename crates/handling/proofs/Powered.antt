@@ -7,14 +7,14 @@ use Rattle.tags.specs.Pump.{PumpMeaning, pump_acts}
 use Rattle.tags.proofs.Conducts.{has_power}
 use Rattle.tags.proofs.Moves.{made_off}
 use Rattle.tags.proofs.Staying.{keeps_power}
-use Rattle.tray_core.specs.Laws.{AllMade, PowerFront, PowerBack, pump_at, here_at}
+use Rattle.handling.specs.Laws.{AllMade, PowerFront, PowerBack, pump_at, here_at}
 use Rattle.tray_core.specs.Rows.{Post, if_here, change_at, placed, lifted, hearing}
 use Rattle.tray_core.specs.Runs.{Turn, turn, run}
 use Rattle.tray_core.specs.Scripts.{Script, done, send, after_play}
 use Rattle.tray_core.specs.Step.{Asks, On, Off, Place, Lift, Frame, Stock, refused_by, unless_refused}
 use Rattle.tray_core.specs.Stock.{stocktaking}
 use Rattle.tray_core.specs.Trays.{Model, in_front, turned_on, turned_off, with_placed, with_lifted, after_frame, sounds_of}
-use Rattle.tray_core.proofs.PumpRows.{Pumps, front, back}
+use Rattle.handling.proofs.PumpRows.{Pumps, front, back}
 
 -- a place, by its flag and its tag: off exactly while it has no power
 abbrev LitAt : Bool → Bool → PumpMeaning → Type 0

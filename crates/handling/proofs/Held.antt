@@ -3,16 +3,16 @@ use Rattle.std.proofs.Common.{◌≡◌, ℕ, ◌+◌, ◌&&◌, List, [], ◌�
 use Rattle.typeb.specs.Hears.{heard}
 use Rattle.tags.specs.Kinds.{Behaviour}
 use Rattle.tags.proofs.Moves.{Good, Moves, moves_serial, moves_trans}
-use Rattle.tray_core.specs.Laws.{Kept, Counted, pump_at, here_at, brings}
+use Rattle.handling.specs.Laws.{Kept, Counted, pump_at, here_at, brings}
 use Rattle.tray_core.specs.Runs.{Turn, turn, run}
 use Rattle.tray_core.specs.Scripts.{Script, done, send, after_play}
 use Rattle.tray_core.specs.Step.{Asks, On, Off, Place, Lift, Frame, Stock, refused_by, unless_refused}
 use Rattle.tray_core.specs.Stock.{stocktaking}
 use Rattle.tray_core.specs.Trays.{Model, turned_on, turned_off, with_placed, with_lifted, after_frame, sounds_of}
-use Rattle.tray_core.proofs.CountFrames.{no_count}
-use Rattle.tray_core.proofs.Mild.{Mild, mild_stock}
-use Rattle.tray_core.proofs.Pumps.{still}
-use Rattle.tray_core.proofs.PumpRows.{Pumps, Quiet, Hearing, quiet_same, quiet_trans, quiet_frame}
+use Rattle.handling.proofs.CountFrames.{no_count}
+use Rattle.handling.proofs.Mild.{Mild, mild_stock}
+use Rattle.handling.proofs.Pumps.{still}
+use Rattle.handling.proofs.PumpRows.{Pumps, Quiet, Hearing, quiet_same, quiet_trans, quiet_frame}
 
 -- a run and more is more of a run
 run_more : {SF HF SB HB : Type 0} (F : Behaviour SF HF) (B : Behaviour SB HB) (t : Model SF HF SB HB) (cs more : List Turn)

@@ -12,26 +12,11 @@ use Rattle.tags.specs.Pages.{lock_bit, counter_in, serial_in}
 use Rattle.tags.specs.Pump.{PumpMeaning, pump_acts, pump_obeys, page_of}
 use Rattle.tags.specs.Reacts.{says_to}
 use Rattle.tray_core.specs.Rows.{Post}
-use Rattle.tray_core.specs.Runs.{Turn, Which, turn, run, seen, accepts, NoCheck, Apart}
-use Rattle.tray_core.specs.Runs.{front as of_front, back as of_back}
+use Rattle.tray_core.specs.Hiding.{NoCheck, Hiding}
+use Rattle.tray_core.specs.Hiding.{front as of_front, back as of_back}
+use Rattle.tray_core.specs.Runs.{Turn, turn, run}
 use Rattle.tray_core.specs.Step.{Asks, On, Off, Place, Lift, Frame, Stock, refused_by}
 use Rattle.tray_core.specs.Trays.{Model, present, loaded_with}
-
--- Hiding: two trays that are equal except in what one closed tag hides, in any state, reached or not, are equal
--- to every caller, for as long as that tag accepts no check in either; and they stay equal but for that part.
-abbrev pub Hiding : {SF HF SB HB : Type 0} → Behaviour SF HF → Behaviour SB HB → Type 0
-Hiding {SF} {HF} {SB} {HB} F B =
-    (w : Which) (t u : Model SF HF SB HB) (cs : List Turn) → Apart w t u → NoCheck F B w t cs → NoCheck F B w u cs
-    → (seen F B t cs ≡ seen F B u cs) × Apart w (run F B t cs) (run F B u cs)
-
--- A tag accepts a check in a frame exactly where the field is on, the tag is on the tray, and its own reaction to the frame accepts one.
-abbrev pub place_accepts : {S H : Type 0} → Behaviour S H → List ℕ → Option (Post S H) → Bool
-place_accepts b frame None = false
-place_accepts b frame (Some p) = cond p.here (b.hears frame p.tag).accepted false
-
-pub record AcceptsItself {SF HF SB HB : Type 0} (F : Behaviour SF HF) (B : Behaviour SB HB) : Type 0 where
-  pub in_front : (n : ℕ) (frame : List ℕ) (t : Model SF HF SB HB) → accepts F B (of_front n) frame t ≡ cond t.field (place_accepts F frame (slice_get t.front n)) false
-  pub behind : (n : ℕ) (frame : List ℕ) (t : Model SF HF SB HB) → accepts F B (of_back n) frame t ≡ cond t.field (place_accepts B frame (slice_get t.back n)) false
 
 -- A run that sends no CHECK PASSWORD: none of its frames is one. (A stock sends none.)
 abbrev pub sends_check : Asks → Bool
@@ -189,7 +174,6 @@ module _ {S H : Type 0} (F : Behaviour S H) where
 -- The whole law, for a front and a back kind.
 pub record Law {SF HF SB HB : Type 0} (F : Behaviour SF HF) (B : Behaviour SB HB) : Type 0 where
   pub hiding : Hiding F B
-  pub accepting : AcceptsItself F B
   pub unchecked_in_front : UncheckedFront B
   pub unchecked_behind : UncheckedBack F
   pub locks_in_front : LocksFront B

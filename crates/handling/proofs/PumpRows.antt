@@ -5,10 +5,10 @@ use Rattle.typeb.specs.Hears.{heard}
 use Rattle.tags.specs.Common.{Shown}
 use Rattle.tags.specs.Pump.{PumpMeaning, pump_acts}
 use Rattle.tags.proofs.Moves.{Good, Moves, moves_trans, made_good}
-use Rattle.tray_core.specs.Laws.{AllMade, pump_at, here_at, is_count, counts_now}
+use Rattle.handling.specs.Laws.{AllMade, pump_at, here_at, is_count, counts_now}
 use Rattle.tray_core.specs.Rows.{Post, if_here, change_at, row_gains, row_loses, placed, lifted, hearing, row_hears}
 use Rattle.tray_core.specs.Trays.{Model}
-use Rattle.tray_core.proofs.Pumps.{still, gains_moves, loses_moves, hears_moves}
+use Rattle.handling.proofs.Pumps.{still, gains_moves, loses_moves, hears_moves}
 
 -- a place for a pump tag, and a row of such places
 abbrev Pump : Type 0

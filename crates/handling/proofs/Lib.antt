@@ -1,0 +1,10 @@
+pub mod CountFrames
+pub mod Pumps
+pub mod PumpRows
+pub mod Mild
+pub mod Held
+pub mod Locked
+pub mod Powered
+pub mod Unchecked
+pub mod Lawful
+pub mod Worked
