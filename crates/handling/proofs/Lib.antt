@@ -1,10 +1,8 @@
 pub mod CountFrames
 pub mod Pumps
-pub mod PumpRows
 pub mod Mild
-pub mod Held
-pub mod Locked
-pub mod Powered
+pub mod Places
+pub mod Keeping
 pub mod Unchecked
 pub mod Lawful
 pub mod Worked

@@ -1,9 +1,9 @@
--- The law over every run: no sequence of calls shows what a closed tag hides, undoes a lock or loses a count;
--- and a tag has power exactly when it is on the tray and the field is on.
-use Rattle.std.specs.Prelude.{◌≡◌, ℕ, zero, suc, ◌+◌, ◌<◌, ◌≤◌, Bool, true, false, cond, not, ◌&&◌, List, [], ◌∷◌, ◌++◌, map, length, replicate, Some, None, Ok, Option, slice_get}
+-- The law over every run: no sequence of calls shows what a closed tag hides, undoes a lock or loses
+-- a count; and a pump tag has power exactly while it is on the tray and the field is on.
+use Rattle.std.specs.Prelude.{◌≡◌, ℕ, ◌+◌, ◌<◌, ◌≤◌, Bool, true, false, if◌then◌else◌, not, ◌&&◌, List, [], ◌∷◌, ◌++◌, All, length, replicate, Some, None, Ok, Option, slice_get, unwrap_or}
+use Rattle.typeb.specs.declared.frames.Op.{Op}
 use Rattle.typeb.specs.declared.frames.Op.TheVariants as op
-use Rattle.typeb.specs.Hears as hears
-use Rattle.typeb.specs.Hears.{Heard, heard}
+use Rattle.typeb.specs.Hears.{Heard, Command, heard}
 use Rattle.tags.specs.Kinds.{Meaning, Behaviour}
 use Rattle.tags.specs.Common.{Shown, is_off_tag, reacts_by}
 use Rattle.tags.specs.Conduct.{acknowledges, is_check}
@@ -11,25 +11,11 @@ use Rattle.tags.specs.Making.{new_pump, pump_made}
 use Rattle.tags.specs.Pages.{lock_bit, counter_in, serial_in}
 use Rattle.tags.specs.Pump.{PumpMeaning, pump_acts, pump_obeys, page_of}
 use Rattle.tags.specs.Reacts.{says_to}
+use Rattle.tray_core.specs.Hiding.{Which, front, back, NoCheck, Hiding}
 use Rattle.tray_core.specs.Rows.{Post}
-use Rattle.tray_core.specs.Hiding.{NoCheck, Hiding}
-use Rattle.tray_core.specs.Hiding.{front as of_front, back as of_back}
 use Rattle.tray_core.specs.Runs.{Turn, turn, run}
-use Rattle.tray_core.specs.Step.{Asks, On, Off, Place, Lift, Frame, Stock, refused_by}
-use Rattle.tray_core.specs.Trays.{Model, present, loaded_with}
-
--- A run that sends no CHECK PASSWORD: none of its frames is one. (A stock sends none.)
-abbrev pub sends_check : Asks → Bool
-sends_check On = false
-sends_check Off = false
-sends_check (Place n) = false
-sends_check (Lift n) = false
-sends_check (Frame frame) = is_check (heard frame)
-sends_check Stock = false
-
-abbrev pub NoneSent : List Turn → Type 0
-NoneSent [] = Unit {0}
-NoneSent (c ∷ more) = (sends_check c.call ≡ false) × NoneSent more
+use Rattle.tray_core.specs.Step.{Asks, Frame, refused_by}
+use Rattle.tray_core.specs.Trays.{Model, loaded_with}
 
 -- A pump tag just made, from some image and draw number.
 pub record JustMade (m : PumpMeaning) : Type 0 where
@@ -37,150 +23,114 @@ pub record JustMade (m : PumpMeaning) : Type 0 where
   pub draw : ℕ
   pub from : pump_made image draw ≡ Ok m
 
-module _ {S H : Type 0} where
-  abbrev pub AllHere : List (Post S H) → Type 0
-  AllHere [] = Unit {0}
-  AllHere (p ∷ row) = (p.here ≡ true) × AllHere row
+-- A run that sends no CHECK PASSWORD: none of its frames is one. (A stock sends none.)
+abbrev pub sends_check : Asks → Bool
+sends_check (Frame frame) = is_check (heard frame)
+sends_check other = false
 
-abbrev pub AllMade : List (Post Shown (List ℕ)) → Type 0
-AllMade [] = Unit {0}
-AllMade (p ∷ row) = JustMade p.tag × AllMade row
+abbrev pub NoneSent : List Turn → Type 0
+NoneSent cs = All (λ c. sends_check c.call ≡ false) cs
 
--- The pump tag with a number in a row; past its end a blank one.
-abbrev pub pump_at : ℕ → List (Post Shown (List ℕ)) → PumpMeaning
-pump_at n [] = new_pump (replicate 256 0) 0
-pump_at zero (p ∷ row) = p.tag
-pump_at (suc n) (p ∷ row) = pump_at n row
+-- A COUNT that a pump tag acknowledges: the frame is one, and the tag's reply is an acknowledgement.
+abbrev pub counting_op : Op → Bool
+counting_op op.Read = false
+counting_op op.Write = false
+counting_op op.Lock = false
+counting_op op.CheckPassword = false
+counting_op op.Deselect = false
+counting_op op.Count = true
 
-abbrev pub here_at : {S H : Type 0} → ℕ → List (Post S H) → Bool
-here_at n [] = false
-here_at zero (p ∷ row) = p.here
-here_at (suc n) (p ∷ row) = here_at n row
-
--- A COUNT that a pump tag acknowledges: the frame is a COUNT, and the tag's own reply is an acknowledgement.
 abbrev pub is_count : Option Heard → Bool
-is_count (Some (hears.Request family wake_up slots)) = false
-is_count (Some (hears.SlotMarker slot)) = false
-is_count (Some (hears.Attrib serial params inf)) = false
-is_count (Some (hears.Halt serial)) = false
-is_count (Some (hears.Command op.Read cid address bytes)) = false
-is_count (Some (hears.Command op.Write cid address bytes)) = false
-is_count (Some (hears.Command op.Lock cid address bytes)) = false
-is_count (Some (hears.Command op.CheckPassword cid address bytes)) = false
-is_count (Some (hears.Command op.Deselect cid address bytes)) = false
-is_count (Some (hears.Command op.Count cid address bytes)) = true
-is_count None = false
+is_count (Some (Command op cid address bytes)) = counting_op op
+is_count other = false
 
 abbrev pub counts_now : List ℕ → PumpMeaning → Bool
-counts_now frame m = is_count (heard frame) && acknowledges (says_to (reacts_by pump_obeys) frame m)
+counts_now frame m =
+    is_count (heard frame) && acknowledges (says_to (reacts_by pump_obeys) frame m)
 
--- Whether a call brings such a COUNT to a tag that has power; a refused call brings nothing.
+-- How many of them a call brings to a tag, which has power or none. A refused call brings none.
 abbrev pub brings : Option ℕ → Asks → Bool → PumpMeaning → ℕ
-brings (Some why) c power m = 0
-brings None On power m = 0
-brings None Off power m = 0
-brings None (Place n) power m = 0
-brings None (Lift n) power m = 0
-brings None (Frame frame) power m = cond (power && counts_now frame m) 1 0
-brings None Stock power m = 0
+brings None (Frame frame) power m = if power && counts_now frame m then 1 else 0
+brings refused other power m = 0
 
--- What the laws say of one pump tag: as loaded, after a run, and after that run and more.
-pub record Kept (loaded then later : PumpMeaning) : Type 0 where
-  -- A lock bit once set stays set.
-  pub locks : (i : ℕ) → i < 32 → lock_bit i (page_of 0 then) ≡ 1 → lock_bit i (page_of 0 later) ≡ 1
-  -- The page that it names keeps its bytes from then on.
-  pub pages : (i : ℕ) → i < 32 → lock_bit i (page_of 0 then) ≡ 1 → page_of i later ≡ page_of i then
+-- A row of pump tags, which may be the front row of a tray, before any kind, or the back row.
+abbrev pub PumpRow : Type 0
+PumpRow = List (Post Shown (List ℕ))
+
+-- What stands past the end of a row: a blank tag, off the tray.
+abbrev pub past_end : Post Shown (List ℕ)
+past_end = record { here = false; tag = new_pump (replicate 256 0) 0 }
+
+module _ {S H : Type 0} where
+  abbrev pub front_row : Model Shown (List ℕ) S H → PumpRow
+  front_row t = t.front
+
+  abbrev pub back_row : Model S H Shown (List ℕ) → PumpRow
+  back_row t = t.back
+
+module _ {SF HF SB HB : Type 0} (row : Model SF HF SB HB → PumpRow) where
+  -- A loaded tray: the field is off, all tags are on the tray, and those of the row were just made.
+  pub record Loaded (t : Model SF HF SB HB) : Type 0 where
+    pub dark : t.field ≡ false
+    pub front : All (λ p. p.here ≡ true) t.front
+    pub back : All (λ p. p.here ≡ true) t.back
+    pub made : All (λ p. JustMade p.tag) (row t)
+
+  -- The place of a number in the row, and its tag.
+  abbrev pub place : ℕ → Model SF HF SB HB → Post Shown (List ℕ)
+  place n t = unwrap_or (slice_get (row t) n) past_end
+
+  abbrev pub pump : ℕ → Model SF HF SB HB → PumpMeaning
+  pump n t = (place n t).tag
+
+  -- It has power: the field is on, and it is on the tray.
+  abbrev pub powered : ℕ → Model SF HF SB HB → Bool
+  powered n t = t.field && (place n t).here
+
+-- What every run keeps of a pump tag: as it was loaded, after a run that brought it so many
+-- acknowledged COUNTs and left it with power or without, and after that run and more.
+pub record Kept (loaded now later : PumpMeaning) (acknowledged : ℕ) (power : Bool) : Type 0 where
+  -- A lock bit once set stays set, and the page that it names keeps its bytes from then on.
+  pub locks : (i : ℕ) → i < 32
+      → lock_bit i (page_of 0 now) ≡ 1 → lock_bit i (page_of 0 later) ≡ 1
+  pub pages : (i : ℕ) → i < 32
+      → lock_bit i (page_of 0 now) ≡ 1 → page_of i later ≡ page_of i now
   -- The serial number never changes.
-  pub serial : serial_in then.shown.pages ≡ serial_in loaded.shown.pages
-
--- The counter is the counter at loading plus the COUNTs acknowledged since, and at most 32,768.
-pub record Counted (loaded now : PumpMeaning) (acknowledged : ℕ) : Type 0 where
+  pub serial : serial_in now.shown.pages ≡ serial_in loaded.shown.pages
+  -- The counter is the counter at loading plus the COUNTs acknowledged since, and at most 32,768.
   pub sum : counter_in (page_of 2 now) ≡ counter_in (page_of 2 loaded) + acknowledged
   pub most : counter_in (page_of 2 now) ≤ 32768
+  -- The tag is off exactly while it has no power.
+  pub off : is_off_tag now.shown ≡ not power
 
--- Pump tags in front, any kind behind.
-module _ {S H : Type 0} (B : Behaviour S H) where
-  pub record LoadedFront (t : Model Shown (List ℕ) S H) : Type 0 where
-    pub dark : t.field ≡ false
-    pub front : AllHere t.front
-    pub back : AllHere t.back
-    pub made : AllMade t.front
+-- The law for a row of pump tags, whose tags are named so.
+module _ {SF HF SB HB : Type 0} (F : Behaviour SF HF) (B : Behaviour SB HB)
+    (row : Model SF HF SB HB → PumpRow) (named : ℕ → Which) where
+  -- The COUNTs that a tag of the row acknowledges in a run.
+  abbrev pub counts : ℕ → Model SF HF SB HB → List Turn → ℕ
+  counts n t [] = 0
+  counts n t (c ∷ more) =
+      brings (refused_by c.call t c.buffer c.list) c.call (powered row n t) (pump row n t)
+      + counts n (turn F B c t).tray more
 
-  abbrev pub counts_front : ℕ → Model Shown (List ℕ) S H → List Turn → ℕ
-  counts_front n t [] = 0
-  counts_front n t (c ∷ more) =
-      brings (refused_by c.call t c.buffer c.list) c.call (t.field && here_at n t.front) (pump_at n t.front)
-      + counts_front n (turn pump_acts B c t).tray more
-
-  abbrev pub LocksFront : Type 0
-  LocksFront =
-      (t : Model Shown (List ℕ) S H) → LoadedFront t → (n : ℕ) → n < length t.front → (cs more : List Turn)
-      → Kept (pump_at n t.front) (pump_at n (run pump_acts B t cs).front) (pump_at n (run pump_acts B t (cs ++ more)).front)
-
-  abbrev pub CountsFront : Type 0
-  CountsFront =
-      (t : Model Shown (List ℕ) S H) → LoadedFront t → (n : ℕ) → n < length t.front → (cs : List Turn)
-      → Counted (pump_at n t.front) (pump_at n (run pump_acts B t cs).front) (counts_front n t cs)
-
-  -- A pump tag is off exactly while it has no power: it has power while it is on the tray and the field is on.
-  abbrev pub PowerFront : Type 0
-  PowerFront =
-      (t : Model Shown (List ℕ) S H) → LoadedFront t → (n : ℕ) → n < length t.front → (cs : List Turn)
-      → is_off_tag (pump_at n (run pump_acts B t cs).front).shown ≡ not ((run pump_acts B t cs).field && here_at n (run pump_acts B t cs).front)
-
-  -- In a run that sends no CHECK PASSWORD no pump tag accepts a check.
-  abbrev pub UncheckedFront : Type 0
-  UncheckedFront = (t : Model Shown (List ℕ) S H) (n : ℕ) (cs : List Turn) → NoneSent cs → NoCheck pump_acts B (of_front n) t cs
-
-  -- Such a tray is loaded of any pump tags just made, and of any tags behind them.
-  abbrev pub LoadsFront : Type 0
-  LoadsFront = (front : List PumpMeaning) (back : List (Meaning S H)) → AllMade (map present front) → LoadedFront (loaded_with front back)
-
--- Any kind in front, pump tags behind.
-module _ {S H : Type 0} (F : Behaviour S H) where
-  pub record LoadedBack (t : Model S H Shown (List ℕ)) : Type 0 where
-    pub dark : t.field ≡ false
-    pub front : AllHere t.front
-    pub back : AllHere t.back
-    pub made : AllMade t.back
-
-  abbrev pub counts_back : ℕ → Model S H Shown (List ℕ) → List Turn → ℕ
-  counts_back n t [] = 0
-  counts_back n t (c ∷ more) =
-      brings (refused_by c.call t c.buffer c.list) c.call (t.field && here_at n t.back) (pump_at n t.back)
-      + counts_back n (turn F pump_acts c t).tray more
-
-  abbrev pub LocksBack : Type 0
-  LocksBack =
-      (t : Model S H Shown (List ℕ)) → LoadedBack t → (n : ℕ) → n < length t.back → (cs more : List Turn)
-      → Kept (pump_at n t.back) (pump_at n (run F pump_acts t cs).back) (pump_at n (run F pump_acts t (cs ++ more)).back)
-
-  abbrev pub CountsBack : Type 0
-  CountsBack =
-      (t : Model S H Shown (List ℕ)) → LoadedBack t → (n : ℕ) → n < length t.back → (cs : List Turn)
-      → Counted (pump_at n t.back) (pump_at n (run F pump_acts t cs).back) (counts_back n t cs)
-
-  abbrev pub PowerBack : Type 0
-  PowerBack =
-      (t : Model S H Shown (List ℕ)) → LoadedBack t → (n : ℕ) → n < length t.back → (cs : List Turn)
-      → is_off_tag (pump_at n (run F pump_acts t cs).back).shown ≡ not ((run F pump_acts t cs).field && here_at n (run F pump_acts t cs).back)
-
-  abbrev pub UncheckedBack : Type 0
-  UncheckedBack = (t : Model S H Shown (List ℕ)) (n : ℕ) (cs : List Turn) → NoneSent cs → NoCheck F pump_acts (of_back n) t cs
-
-  abbrev pub LoadsBack : Type 0
-  LoadsBack = (front : List (Meaning S H)) (back : List PumpMeaning) → AllMade (map present back) → LoadedBack (loaded_with front back)
+  pub record PumpLaw : Type 0 where
+    -- A run from a loaded tray leaves every tag in its row, and keeps of it what is said above.
+    pub stays : (t : Model SF HF SB HB) → Loaded row t → (n : ℕ) → n < length (row t)
+        → (cs : List Turn) → n < length (row (run F B t cs))
+    pub kept : (t : Model SF HF SB HB) → Loaded row t → (n : ℕ) → n < length (row t)
+        → (cs more : List Turn)
+        → Kept (pump row n t) (pump row n (run F B t cs)) (pump row n (run F B t (cs ++ more)))
+        (counts n t cs) (powered row n (run F B t cs))
+    -- In a run that sends no CHECK PASSWORD, from any tray, no tag of the row accepts a check.
+    pub unchecked : (t : Model SF HF SB HB) (n : ℕ) (cs : List Turn) → NoneSent cs
+        → NoCheck F B (named n) t cs
+    -- Loading pump tags just made, and any tags in the other row, makes a loaded tray.
+    pub loads : (fs : List (Meaning SF HF)) (bs : List (Meaning SB HB))
+        → All (λ p. JustMade p.tag) (row (loaded_with fs bs)) → Loaded row (loaded_with fs bs)
 
 -- The whole law, for a front and a back kind.
 pub record Law {SF HF SB HB : Type 0} (F : Behaviour SF HF) (B : Behaviour SB HB) : Type 0 where
   pub hiding : Hiding F B
-  pub unchecked_in_front : UncheckedFront B
-  pub unchecked_behind : UncheckedBack F
-  pub locks_in_front : LocksFront B
-  pub locks_behind : LocksBack F
-  pub counts_in_front : CountsFront B
-  pub counts_behind : CountsBack F
-  pub power_in_front : PowerFront B
-  pub power_behind : PowerBack F
-  pub loads_in_front : LoadsFront B
-  pub loads_behind : LoadsBack F
+  -- Of pump tags in front, before any kind; and behind any kind.
+  pub in_front : PumpLaw pump_acts B front_row front
+  pub behind : PumpLaw F pump_acts back_row back

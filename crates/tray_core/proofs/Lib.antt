@@ -8,4 +8,5 @@ pub mod Slots
 pub mod Rounds
 pub mod Stocked
 pub mod Tallies
+pub mod Places
 pub mod Stepping
