@@ -4,7 +4,7 @@ use Rattle.std.proofs.lemmas.Bool.{and_left, and_right}
 use Rattle.std.proofs.lemmas.Option.{slice_get_within}
 use Rattle.typeb.specs.Hears as hears
 use Rattle.tags.specs.Common.{Shown, is_off_tag}
-use Rattle.tags.specs.Kinds.{Behaviour}
+use Rattle.kinds.specs.Kinds.{Behaviour}
 use Rattle.tags.specs.Pump.{PumpMeaning, pump_acts}
 use Rattle.tags.proofs.Moves.{Good, Moves, moves_serial, moves_trans}
 use Rattle.tray_core.specs.Hiding.{Which}

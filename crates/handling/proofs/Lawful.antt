@@ -3,7 +3,8 @@ use Rattle.std.proofs.Common.{◌≡◌, ℕ, ◌+◌, ◌<◌, Bool, true, not,
 use Rattle.std.proofs.lemmas.Bool.{and_left}
 use Rattle.std.proofs.lemmas.List.Elements.{All-map, All-get_or}
 use Rattle.std.proofs.lemmas.Option.{slice_get-get_or, unwrap_or-slice_get}
-use Rattle.tags.specs.Kinds.{Meaning, Behaviour, Duties}
+use Rattle.kinds.specs.Kinds.{Meaning, Behaviour, Duties}
+use Rattle.tags.specs.Making.{JustMade}
 use Rattle.tags.specs.Pump.{pump_acts}
 use Rattle.tags.proofs.Moves.{made_good, made_off}
 use Rattle.tray_core.specs.Hiding.{Which, front, back, accepts, place_accepts}
@@ -11,7 +12,7 @@ use Rattle.tray_core.specs.Rows.{Post}
 use Rattle.tray_core.specs.Trays.{Model, present}
 use Rattle.tray_core.proofs.HiddenPart.{hiding}
 use Rattle.tray_core.proofs.Places.{Rowed, front_rowed, back_rowed}
-use Rattle.handling.specs.Laws.{JustMade, PumpRow, Loaded, PumpLaw, Law, past_end, place, pump, front_row, back_row}
+use Rattle.handling.specs.Laws.{PumpRow, Loaded, PumpLaw, Law, past_end, place, pump, front_row, back_row}
 use Rattle.handling.proofs.Keeping.{Sound, stays, kept}
 use Rattle.handling.proofs.Unchecked.{in_run}
 

@@ -5,7 +5,7 @@ use Rattle.std.proofs.lemmas.List.Elements.{All-head, All-tail}
 use Rattle.typeb.specs.Hears.{heard}
 use Rattle.tags.specs.Common.{Shown}
 use Rattle.tags.specs.Conduct.{is_check}
-use Rattle.tags.specs.Kinds.{Behaviour}
+use Rattle.kinds.specs.Kinds.{Behaviour}
 use Rattle.tags.specs.Pump.{PumpMeaning, pump_acts}
 use Rattle.tags.proofs.Conducts.{conduct}
 use Rattle.handling.specs.Laws.{NoneSent, PumpRow, sends_check}

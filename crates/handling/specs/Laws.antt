@@ -1,27 +1,21 @@
 -- The law over every run: no sequence of calls shows what a closed tag hides, undoes a lock or loses
 -- a count; and a pump tag has power exactly while it is on the tray and the field is on.
-use Rattle.std.specs.Prelude.{◌≡◌, ℕ, ◌+◌, ◌<◌, ◌≤◌, Bool, true, false, if◌then◌else◌, not, ◌&&◌, List, [], ◌∷◌, ◌++◌, All, length, replicate, Some, None, Ok, Option, slice_get, unwrap_or}
+use Rattle.std.specs.Prelude.{◌≡◌, ℕ, ◌+◌, ◌<◌, ◌≤◌, Bool, true, false, if◌then◌else◌, not, ◌&&◌, List, [], ◌∷◌, ◌++◌, All, length, replicate, Some, None, Option, slice_get, unwrap_or}
 use Rattle.typeb.specs.declared.frames.Op.{Op}
 use Rattle.typeb.specs.declared.frames.Op.TheVariants as op
 use Rattle.typeb.specs.Hears.{Heard, Command, heard}
-use Rattle.tags.specs.Kinds.{Meaning, Behaviour}
+use Rattle.kinds.specs.Kinds.{Meaning, Behaviour}
 use Rattle.tags.specs.Common.{Shown, is_off_tag, reacts_by}
 use Rattle.tags.specs.Conduct.{acknowledges, is_check}
-use Rattle.tags.specs.Making.{new_pump, pump_made}
+use Rattle.tags.specs.Making.{JustMade, new_pump}
 use Rattle.tags.specs.Pages.{lock_bit, counter_in, serial_in}
 use Rattle.tags.specs.Pump.{PumpMeaning, pump_acts, pump_obeys, page_of}
-use Rattle.tags.specs.Reacts.{says_to}
+use Rattle.kinds.specs.Reacts.{says_to}
 use Rattle.tray_core.specs.Hiding.{Which, front, back, NoCheck, Hiding}
 use Rattle.tray_core.specs.Rows.{Post}
 use Rattle.tray_core.specs.Runs.{Turn, turn, run}
 use Rattle.tray_core.specs.Step.{Asks, Frame, refused_by}
 use Rattle.tray_core.specs.Trays.{Model, loaded_with}
-
--- A pump tag just made, from some image and draw number.
-pub record JustMade (m : PumpMeaning) : Type 0 where
-  pub image : List ℕ
-  pub draw : ℕ
-  pub from : pump_made image draw ≡ Ok m
 
 -- A run that sends no CHECK PASSWORD: none of its frames is one. (A stock sends none.)
 abbrev pub sends_check : Asks → Bool

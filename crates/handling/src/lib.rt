@@ -9,8 +9,8 @@ ghost use Rattle.tray_core.specs.Steps.{Steps};
 ghost use Rattle.tray_core.specs.Trays.{Model};
 ghost use Rattle.tray_core.specs.Views.{model_of};
 
+use kinds::kind::Kind;
 use refusals::Refusal;
-use tags::kind::Kind;
 use tray_core::calls::{Answer, Call};
 use tray_core::tray::Tray;
 use typeb::frames::Serial;

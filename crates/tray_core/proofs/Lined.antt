@@ -1,7 +1,7 @@
 -- A row by its flags and tags: its length, and a row just made.
 use Rattle.std.proofs.Common.{◌≡◌, ℕ, zero, suc, Bool, true, List, [], ◌∷◌, map, length, replicate, vec_items, vec_len, sym, refl, ap, ◌∙◌}
 use Rattle.std.proofs.lemmas.List.{length-map}
-use Rattle.tags.specs.Kinds.{Meaning}
+use Rattle.kinds.specs.Kinds.{Meaning}
 use Rattle.tray_core.specs.declared.row.Row.{Row}
 use Rattle.tray_core.specs.Trays.{present}
 use Rattle.tray_core.specs.Views.{posts, row_of}

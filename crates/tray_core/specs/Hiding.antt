@@ -1,6 +1,6 @@
 -- Hiding: no caller can tell two trays apart that differ only in what one closed tag hides.
 use Rattle.std.specs.Prelude.{◌≡◌, ℕ, zero, suc, Bool, false, ◌&&◌, List, [], ◌∷◌, Some, None, Option, slice_get}
-use Rattle.tags.specs.Kinds.{Behaviour, Twins}
+use Rattle.kinds.specs.Kinds.{Behaviour, Twins}
 use Rattle.tray_core.specs.Rows.{Post}
 use Rattle.tray_core.specs.Runs.{Turn, turn, run, seen}
 use Rattle.tray_core.specs.Scripts.{Script, done, send}

@@ -1,6 +1,6 @@
 -- Runs: a list of calls, each with a buffer and a list of its own.
 use Rattle.std.specs.Prelude.{ℕ, List, [], ◌∷◌, Result}
-use Rattle.tags.specs.Kinds.{Behaviour}
+use Rattle.kinds.specs.Kinds.{Behaviour}
 use Rattle.tray_core.specs.declared.calls.Answer.{Answer}
 use Rattle.tray_core.specs.Step.{Asks, Outcome, step}
 use Rattle.tray_core.specs.Trays.{Model}

@@ -9,7 +9,7 @@ ghost use Rattle.tray_core.specs.Views.{row_of, sounds_in, how_many};
 use crate::row::Row;
 use crate::sounds::Sounds;
 use crate::walking::{hear_row, power_row, power_tag};
-use tags::kind::Kind;
+use kinds::kind::Kind;
 use typeb::received::Received;
 
 impl<K: Kind> Row<K> {

@@ -12,8 +12,8 @@ use crate::progress::Progress;
 use crate::sounds::Sounds;
 use crate::speaking::{answering_serial, halt_frame, slot_frame};
 use crate::tray::{Rows, Tray};
+use kinds::kind::Kind;
 use refusals::Refusal;
-use tags::kind::Kind;
 use typeb::frames::Serial;
 use typeb::message::Message;
 

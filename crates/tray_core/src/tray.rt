@@ -12,8 +12,8 @@ ghost use Rattle.tray_core.specs.Views.{model_of, rows_of, sounds_in};
 use crate::calls::Answer;
 use crate::row::{Row, TooLong};
 use crate::sounds::Sounds;
+use kinds::kind::Kind;
 use refusals::Refusal;
-use tags::kind::Kind;
 use typeb::received::Received;
 
 // A front row, a back row and the field.

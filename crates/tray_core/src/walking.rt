@@ -7,7 +7,7 @@ ghost use Rattle.tray_core.specs.Views.{posts, sounds_in, how_many};
 
 use crate::hearing::tell_tag;
 use crate::sounds::Sounds;
-use tags::kind::Kind;
+use kinds::kind::Kind;
 use typeb::received::Received;
 
 // Every tag on the tray hears a frame. What was heard before goes in, and comes out with the row's replies.
