@@ -3,7 +3,6 @@
 
 pub mod calls;
 pub mod frames;
-pub mod handling;
 mod hearing;
 mod progress;
 mod row;
@@ -12,3 +11,4 @@ mod sounds;
 mod speaking;
 pub mod stock;
 pub mod tray;
+mod walking;

@@ -1,27 +1,16 @@
-// A row's tags, one after another: each tag on the tray is told in place.
+// A row's methods.
 ghost use Rattle.std.specs.Prelude.{◌≡◌, ℕ, ◌+◌, ◌<◌, ◌≤◌, map, length, vec_len};
 ghost use Rattle.typeb.specs.Receives.{on_air};
-ghost use Rattle.tray_core.specs.Rows.{powers, row_powers, row_hears, row_sounds, change_at, moved};
+ghost use Rattle.tray_core.specs.Rows.{row_powers, row_hears, row_sounds, change_at, moved};
 ghost use Rattle.tray_core.specs.Sounds.{meet};
 ghost use Rattle.tray_core.specs.Trays.{present};
 ghost use Rattle.tray_core.specs.Views.{row_of, sounds_in, how_many};
 
-use crate::hearing::tell_tag;
 use crate::row::Row;
 use crate::sounds::Sounds;
+use crate::walking::{hear_row, power_row, power_tag};
 use kinds::kind::Kind;
 use typeb::received::Received;
-
-// A tag gains power, or loses it.
-fn power_tag<K: Kind>(tag: &mut K, on: bool)
-    ensures { K.means tag.new ≡ powers K.acts on (K.means tag.old) }
-{
-    if on {
-        tag.gain_power();
-    } else {
-        tag.lose_power();
-    }
-}
 
 impl<K: Kind> Row<K> {
     // All tags are on the tray.
@@ -43,34 +32,21 @@ impl<K: Kind> Row<K> {
         self.tags.len()
     }
 
-    // The tags on the tray gain power, or lose it. The flag is the field as it becomes, and the definitions take it too, so a
-    // closure for the step would be no plainer. The flag is read by its number, since nothing is known of what is written through a zip.
+    // The tags on the tray gain power, or lose it.
     pub(crate) fn power(&mut self, on: bool)
         ensures { row_of K.means self.new ≡ row_powers K.acts on (row_of K.means self.old) }
     {
-        for (i, tag) in self.tags.iter_mut().enumerate() {
-            if self.present[i] {
-                power_tag(tag, on);
-            }
-        }
+        power_row(&mut self.tags, &self.present, on);
     }
 
     // Every tag on the tray hears a frame. What was heard before goes in, and comes out with the row's replies.
-    // It walks the row as `power` does: one walk over a step that is passed in would have to follow in its contract what the
-    // step gathers from tag to tag, which is longer than the two loops.
     pub(crate) fn hear(&mut self, frame: &Received<'_>, before: Sounds) -> Sounds
         requires { how_many before ≤ 32 }
         ensures after { row_of K.means self.new ≡ row_hears K.acts (on_air frame.now) (row_of K.means self.old) }
         ensures sounds { sounds_in result ≡ meet (sounds_in before) (row_sounds K.acts (on_air frame.now) (row_of K.means self.old)) }
         ensures count { how_many result ≤ how_many before + 32 }
     {
-        let mut heard = before;
-        for (i, tag) in self.tags.iter_mut().enumerate() {
-            if self.present[i] {
-                tell_tag(tag, frame, &mut heard);
-            }
-        }
-        heard
+        hear_row(&mut self.tags, &self.present, frame, before)
     }
 
     // A tag is put on the tray or lifted off it: where the field is on it gains or loses power.

@@ -7,7 +7,7 @@ use Rattle.reader.specs.Commands.{Request, SlotMarker, Halt, body_for, frame_for
 use Rattle.tray_core.specs.Scripts.{Script, done, send}
 use Rattle.tray_core.specs.Sounds.{Sounds, Silence, Reply, Clash}
 use Rattle.tray_core.specs.Stock.{Tally, nothing, next_round, answering, halting, in_slot, slots, round_frames, rounds, stocktaking}
-use Rattle.tray_core.proofs.CountFrames.{Plain, no_command}
+use Rattle.handling.proofs.CountFrames.{Plain, no_command}
 
 -- a script that sends no data command, whatever it hears
 abbrev pub Mild : {A : Type 0} → Script A → Type 0

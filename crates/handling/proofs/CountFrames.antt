@@ -8,7 +8,7 @@ use Rattle.typeb.specs.declared.frames.Op.{Op}
 use Rattle.typeb.specs.Hears.{Heard, Request, SlotMarker, Attrib, Halt, Command, heard, in_body, at, request_of, command_of, slots_of, op_of}
 use Rattle.typeb.proofs.Buffers.{length_sealed}
 use Rattle.tags.specs.Conduct.{is_check}
-use Rattle.tray_core.specs.Laws.{is_count}
+use Rattle.handling.specs.Laws.{is_count}
 
 -- a frame for the link
 abbrev pub ForLink : Heard → Type 0

@@ -1,5 +1,5 @@
-use Rattle.tray_core.proofs.Lawful.{lawful}
-use Rattle.tray_core.proofs.tray.Tray.handle.Goals as goal
+use Rattle.handling.proofs.Lawful.{lawful}
+use Rattle.handling.proofs.handle.Goals as goal
 
 pub returns-in-On-clause-runs : goal.returns-in-On-clause-runs
 returns-in-On-clause-runs g c = lawful g.F.Kind.acts g.B.Kind.acts g.met.F.Kind.duties g.met.B.Kind.duties

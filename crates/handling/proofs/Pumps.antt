@@ -12,8 +12,8 @@ use Rattle.kinds.specs.Reacts.{Reaction, answered, says_at}
 use Rattle.tags.specs.Rules.{reading_of, writing_of, ever_read, read_now, by_write}
 use Rattle.tags.proofs.Moves.{Good, Moves, moves_same, written_moves, locked_moves, counted_moves}
 use Rattle.tags.specs.Conduct.{acknowledges}
-use Rattle.tray_core.specs.Laws.{is_count, counts_now}
-use Rattle.tray_core.proofs.CountFrames.{Eight, eight_heard}
+use Rattle.handling.specs.Laws.{is_count, counts_now}
+use Rattle.handling.proofs.CountFrames.{Eight, eight_heard}
 
 -- a page that WRITE writes is neither page 0 nor page 2
 not_written : (page other : ℕ) → by_write (writing_of other) ≡ false → by_write (writing_of page) ≡ true → page ≡ other → ⊥

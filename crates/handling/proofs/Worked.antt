@@ -3,7 +3,7 @@ use Rattle.std.proofs.Common.{refl}
 use Rattle.typeb.specs.CheckBytes.{fold_bit, fold_bits, fold_byte, check_bytes, sound}
 use Rattle.typeb.specs.Hears.{heard}
 use Rattle.tray_core.specs.Stock.{rounds, stocktaking}
-use Rattle.tray_core.specs.Worked.{WorkedStocks}
+use Rattle.handling.specs.Worked.{WorkedStocks}
 
 pub worked_stocks : WorkedStocks
 unfolding fold_bit fold_bits fold_byte check_bytes sound heard rounds stocktaking
