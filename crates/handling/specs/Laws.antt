@@ -1,5 +1,5 @@
--- The law over every run: no sequence of calls shows what a closed tag hides, undoes a lock or loses
--- a count; and a pump tag has power exactly while it is on the tray and the field is on.
+-- The law over every run: no sequence of calls shows what a closed tag hides, undoes a lock or
+-- loses a count; and a pump tag has power exactly while it is on the tray and the field is on.
 use Rattle.std.specs.Prelude.{◌≡◌, ℕ, ◌+◌, ◌<◌, ◌≤◌, Bool, true, false, if◌then◌else◌, not, ◌&&◌, List, [], ◌∷◌, ◌++◌, All, length, replicate, Some, None, Option, slice_get, unwrap_or}
 use Rattle.typeb.specs.declared.frames.Op.{Op}
 use Rattle.typeb.specs.declared.frames.Op.TheVariants as op
@@ -25,7 +25,7 @@ sends_check other = false
 abbrev pub NoneSent : List Turn → Type 0
 NoneSent cs = All (λ c. sends_check c.call ≡ false) cs
 
--- A COUNT that a pump tag acknowledges: the frame is one, and the tag's reply is an acknowledgement.
+-- A COUNT that a pump tag acknowledges: the frame is one, and the tag's reply acknowledges it.
 abbrev pub counting_op : Op → Bool
 counting_op op.Read = false
 counting_op op.Write = false
@@ -42,7 +42,7 @@ abbrev pub counts_now : List ℕ → PumpMeaning → Bool
 counts_now frame m =
     is_count (heard frame) && acknowledges (says_to (reacts_by pump_obeys) frame m)
 
--- How many of them a call brings to a tag, which has power or none. A refused call brings none.
+-- How many of them a call brings to a tag, by whether it has power. A refused call brings none.
 abbrev pub brings : Option ℕ → Asks → Bool → PumpMeaning → ℕ
 brings None (Frame frame) power m = if power && counts_now frame m then 1 else 0
 brings refused other power m = 0

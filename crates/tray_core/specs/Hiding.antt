@@ -13,13 +13,15 @@ pub data Which : Type 0 where
   front : ℕ → Which
   back : ℕ → Which
 
--- The tag of a place accepts a check in a frame: it is on the tray, and its own reaction to the frame accepts one.
+-- The tag of a place accepts a check in a frame: it is on the tray, and its own reaction to the
+-- frame accepts one.
 abbrev pub place_accepts : {S H : Type 0} → Behaviour S H → List ℕ → Option (Post S H) → Bool
 place_accepts b frame None = false
 place_accepts b frame (Some p) = p.here && (b.hears frame p.tag).accepted
 
 module _ {SF HF SB HB : Type 0} (F : Behaviour SF HF) (B : Behaviour SB HB) where
-  -- A tag accepts a check in a frame on the air: the field is on, and the tag of its place accepts one.
+  -- A tag accepts a check in a frame on the air: the field is on, and the tag of its place
+  -- accepts one.
   abbrev pub accepts : Which → List ℕ → Model SF HF SB HB → Bool
   accepts (front n) frame t = t.field && place_accepts F frame (slice_get t.front n)
   accepts (back n) frame t = t.field && place_accepts B frame (slice_get t.back n)
@@ -28,9 +30,10 @@ module _ {SF HF SB HB : Type 0} (F : Behaviour SF HF) (B : Behaviour SB HB) wher
   abbrev pub NoneInScript : {A : Type 0} → Which → Script A → Model SF HF SB HB → Type 0
   NoneInScript w (done a) t = Unit {0}
   NoneInScript w (send frame next) t =
-      (accepts w frame t ≡ false) × NoneInScript w (next (sounds_of F B frame t)) (after_frame F B frame t)
+      (accepts w frame t ≡ false)
+      × NoneInScript w (next (sounds_of F B frame t)) (after_frame F B frame t)
 
-  -- It accepts none in a call, the frames that a stock sends included. A refused call sends no frame.
+  -- It accepts none in a call, the frames that a stock sends included. A refused call sends none.
   abbrev pub NoneInCall : Which → Option ℕ → Asks → Model SF HF SB HB → Type 0
   NoneInCall w (Some why) c t = Unit {0}
   NoneInCall w None On t = Unit {0}
@@ -44,9 +47,11 @@ module _ {SF HF SB HB : Type 0} (F : Behaviour SF HF) (B : Behaviour SB HB) wher
   abbrev pub NoCheck : Which → Model SF HF SB HB → List Turn → Type 0
   NoCheck w t [] = Unit {0}
   NoCheck w t (c ∷ more) =
-      NoneInCall w (refused_by c.call t c.buffer c.list) c.call t × NoCheck w (turn F B c t).tray more
+      NoneInCall w (refused_by c.call t c.buffer c.list) c.call t
+      × NoCheck w (turn F B c t).tray more
 
--- Two rows are equal except perhaps in the hidden part of the tag with a number, which is closed in both.
+-- Two rows are equal except perhaps in the hidden part of the tag with a number, which is closed
+-- in both.
 module _ {S H : Type 0} where
   abbrev pub ApartAt : ℕ → List (Post S H) → List (Post S H) → Type 0
   ApartAt n [] [] = ⊥
@@ -61,9 +66,10 @@ module _ {SF HF SB HB : Type 0} where
   Apart (front n) t u = (t.field ≡ u.field) × ApartAt n t.front u.front × (t.back ≡ u.back)
   Apart (back n) t u = (t.field ≡ u.field) × (t.front ≡ u.front) × ApartAt n t.back u.back
 
-  -- Two such trays, in any state, reached or not, are equal to every caller for as long as that tag accepts no check in either;
-  -- and they stay equal but for that part.
+  -- Two such trays, in any state, reached or not, are equal to every caller for as long as that tag
+  -- accepts no check in either; and they stay equal but for that part.
   abbrev pub Hiding : Behaviour SF HF → Behaviour SB HB → Type 0
   Hiding F B =
-      (w : Which) (t u : Model SF HF SB HB) (cs : List Turn) → Apart w t u → NoCheck F B w t cs → NoCheck F B w u cs
+      (w : Which) (t u : Model SF HF SB HB) (cs : List Turn)
+      → Apart w t u → NoCheck F B w t cs → NoCheck F B w u cs
       → (seen F B t cs ≡ seen F B u cs) × Apart w (run F B t cs) (run F B u cs)

@@ -28,4 +28,5 @@ module _ {SF HF SB HB : Type 0} (F : Behaviour SF HF) (B : Behaviour SB HB) wher
   abbrev pub seen : Model SF HF SB HB → List Turn → List Seen
   seen t [] = []
   seen t (c ∷ more) =
-      record { answer = (turn c t).answer; buffer = (turn c t).buffer; list = (turn c t).list } ∷ seen (turn c t).tray more
+      record { answer = (turn c t).answer; buffer = (turn c t).buffer; list = (turn c t).list }
+      ∷ seen (turn c t).tray more

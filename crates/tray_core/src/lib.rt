@@ -6,7 +6,6 @@ pub mod frames;
 mod hearing;
 mod progress;
 mod row;
-mod rows;
 mod sounds;
 mod speaking;
 pub mod stock;
