@@ -1,16 +1,8 @@
-//! What a kind of tag is, and how tags hear and answer.
+//! A tag: the link that every kind has, over what its kind has for itself.
 
-use crate::ears::Ears;
-use crate::frames::{Command, Frame, Page};
-use crate::link::{Link, LinkReply, State};
-use crate::message::Message;
-
-/// What a tag says to a data command.
-pub enum Reply {
-    Page(Page),
-    Acknowledged,
-    Refused(Nack),
-}
+use crate::frames::{Command, Frame, Op, Page, Serial};
+use crate::link::{Link, State};
+use crate::replies::Said;
 
 /// Why a tag refuses a data command.
 #[derive(Clone, Copy)]
@@ -23,69 +15,123 @@ pub enum Nack {
     NotOpen = 0x41,
 }
 
-pub trait Tag {
-    fn link(&mut self) -> &mut Link;
+/// What a data command does where no kind refuses it.
+pub enum Done {
+    Read(Page),
+    Acknowledged,
+}
 
+/// What a kind of tag has beside its link.
+pub trait Kind {
     fn pages(&self) -> &[Page];
 
-    /// Obeys a data command with its card number.
-    fn obey(&mut self, command: &Command) -> Option<Reply>;
+    /// Obeys a data command other than DESELECT. Nothing where this kind does not hear it.
+    fn obey(&mut self, command: &Command) -> Option<Result<Done, Nack>>;
 
-    fn gain_power(&mut self) {
-        self.link().gain_power();
-    }
-
-    fn lose_power(&mut self) {
-        self.link().lose_power();
-    }
-
-    /// Hears what is on the air, and answers.
-    fn hear<E: Ears>(&mut self, on_air: &E::OnAir<'_>) -> Option<Message> {
-        match E::hear(on_air)? {
-            Frame::Command(command) => {
-                let link = self.link();
-                if link.state != State::Active || link.cid != command.cid() {
-                    return None;
-                }
-                let reply = self.obey(&command)?;
-                Some(command_reply(&command, reply).sealed::<E>())
-            }
-            frame => {
-                let serial = first_half(&self.pages()[0]);
-                let reply = self.link().hear(&frame, serial)?;
-                Some(link_reply(self.pages(), reply).sealed::<E>())
-            }
-        }
-    }
+    fn lose_power(&mut self) {}
 }
 
-fn command_reply(command: &Command, reply: Reply) -> Message {
-    let mut message = Message::default();
-    message.push(command.head);
-    match reply {
-        Reply::Page(page) => {
-            message.push(command.page());
-            message.extend(&page);
-        }
-        Reply::Acknowledged => message.push(0x00),
-        Reply::Refused(nack) => message.push(nack as u8),
-    }
-    message
+pub struct Tag<K> {
+    pub link: Link,
+    placed: bool,
+    pub kind: K,
 }
 
-fn link_reply(pages: &[Page], reply: LinkReply) -> Message {
-    let mut message = Message::default();
-    match reply {
-        LinkReply::Answer => {
-            message.push(0x50);
-            message.extend(&first_half(&pages[0]));
-            message.extend(&first_half(&pages[1]));
-            message.extend(&[0x00, 0x00, 0x41]);
+impl<K: Kind> Tag<K> {
+    pub fn new(draw: u16, kind: K) -> Tag<K> {
+        Tag {
+            link: Link::new(draw),
+            placed: true,
+            kind,
         }
-        LinkReply::Card(cid) => message.push(cid),
-        LinkReply::Halted => message.push(0x00),
     }
-    message
+
+    /// The field goes on or off. A tag that is not on the tray is off in either.
+    pub fn set_field(&mut self, on: bool) {
+        if self.placed {
+            self.set_power(on);
+        }
+    }
+
+    pub fn set_placed(&mut self, placed: bool, field: bool) {
+        if field && placed != self.placed {
+            self.set_power(placed);
+        }
+        self.placed = placed;
+    }
+
+    fn set_power(&mut self, on: bool) {
+        if on {
+            self.link.gain_power();
+        } else {
+            self.link.lose_power();
+            self.kind.lose_power();
+        }
+    }
+
+    /// Hears a frame, and answers. A tag that is off hears nothing.
+    pub fn hear(&mut self, frame: &Frame) -> Option<Said> {
+        match *frame {
+            Frame::Request {
+                family,
+                wake_up,
+                slots,
+            } => self
+                .link
+                .request(family, wake_up, slots)
+                .then(|| self.answer()),
+            Frame::SlotMarker { slot } if self.link.state == State::Requested(slot) => {
+                self.link.state = State::Declared;
+                Some(self.answer())
+            }
+            Frame::Attrib { serial, cid } if self.is_declared(serial) => {
+                self.link.state = State::Active(cid);
+                Some(Said::Byte(cid))
+            }
+            Frame::Halt { serial } if self.is_declared(serial) => {
+                self.link.state = State::Halted;
+                Some(Said::Byte(0x00))
+            }
+            Frame::Command(ref command) if self.link.state == State::Active(command.cid()) => {
+                self.obey(command)
+            }
+            _ => None,
+        }
+    }
+
+    fn is_declared(&self, serial: Serial) -> bool {
+        self.link.state == State::Declared && first_half(&self.kind.pages()[0]) == serial
+    }
+
+    fn answer(&self) -> Said {
+        let pages = self.kind.pages();
+        Said::Answer {
+            serial: first_half(&pages[0]),
+            application: first_half(&pages[1]),
+        }
+    }
+
+    fn obey(&mut self, command: &Command) -> Option<Said> {
+        let head = command.head;
+        let outcome = if command.op == Op::Deselect {
+            self.link.state = State::Halted;
+            Ok(Done::Acknowledged)
+        } else {
+            self.kind.obey(command)?
+        };
+        Some(match outcome {
+            Ok(Done::Read(page)) => Said::Page {
+                head,
+                number: command.page(),
+                page,
+            },
+            Ok(Done::Acknowledged) => Said::Status { head, status: 0x00 },
+            Err(nack) => Said::Status {
+                head,
+                status: nack as u8,
+            },
+        })
+    }
 }
 
 /// The serial number of page 0, or the application data of page 1.
