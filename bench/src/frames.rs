@@ -66,9 +66,9 @@ impl Frame<'_> {
     pub fn listeners(&self) -> Option<State> {
         match self {
             Frame::Request { .. } => None,
-            Frame::SlotMarker { slot } => Some(State::Requested(*slot)),
-            Frame::Attrib { .. } | Frame::Halt { .. } => Some(State::Declared),
-            Frame::Command(command) => Some(State::Active(command.cid())),
+            Frame::SlotMarker { slot } => Some(State::requested(*slot)),
+            Frame::Attrib { .. } | Frame::Halt { .. } => Some(State::DECLARED),
+            Frame::Command(command) => Some(State::active(command.cid())),
         }
     }
 }

@@ -1,15 +1,28 @@
 //! What every kind of tag has: its state and draw number.
 
-#[derive(Clone, Copy, PartialEq, Eq, Debug)]
-pub enum State {
-    Off,
-    Idle,
+/// A state, in one byte, so that it is compared at once.
+#[derive(Clone, Copy, PartialEq, Eq, PartialOrd, Debug)]
+pub struct State(u8);
+
+impl State {
+    pub const OFF: State = State(0);
+    pub const IDLE: State = State(1);
+    pub const DECLARED: State = State(2);
+    pub const HALTED: State = State(3);
+
     /// Waits for the marker of the slot that it drew.
-    Requested(u8),
-    Declared,
-    Halted,
+    pub fn requested(slot: u8) -> State {
+        State(0x40 | slot)
+    }
+
     /// Obeys data commands with the card number that it was given.
-    Active(u8),
+    pub fn active(cid: u8) -> State {
+        State(0x80 | cid)
+    }
+
+    fn is_active(self) -> bool {
+        self >= State(0x80)
+    }
 }
 
 #[derive(Clone, Debug)]
@@ -21,37 +34,36 @@ pub struct Link {
 impl Link {
     pub fn new(draw: u16) -> Link {
         Link {
-            state: State::Off,
+            state: State::OFF,
             draw,
         }
     }
 
     pub fn gain_power(&mut self) {
-        if self.state == State::Off {
-            self.state = State::Idle;
+        if self.state == State::OFF {
+            self.state = State::IDLE;
         }
     }
 
     pub fn lose_power(&mut self) {
-        self.state = State::Off;
+        self.state = State::OFF;
     }
 
     /// Hears a request, and tells whether to answer. Of several slots one is drawn; the first is answered at once.
     pub fn request(&mut self, family: u8, wake_up: bool, slots: u8) -> bool {
-        match self.state {
-            State::Off | State::Active(_) => return false,
-            State::Halted if !wake_up || family > 1 => return false,
-            _ => {}
+        let halted = self.state == State::HALTED;
+        if self.state == State::OFF || self.state.is_active() || halted && (!wake_up || family > 1) {
+            return false;
         }
         self.state = if family > 1 {
-            State::Idle
+            State::IDLE
         } else {
             match self.draw_slot(slots) {
-                1 => State::Declared,
-                slot => State::Requested(slot),
+                1 => State::DECLARED,
+                slot => State::requested(slot),
             }
         };
-        self.state == State::Declared
+        self.state == State::DECLARED
     }
 
     /// Of one slot nothing is drawn. The number of slots is a power of two.

@@ -70,6 +70,7 @@ impl<K: Kind> Tag<K> {
     }
 
     /// Hears a frame, and answers. A tag that is off hears nothing.
+    #[inline(always)]
     pub fn hear(&mut self, frame: &Frame) -> Option<Said> {
         match *frame {
             Frame::Request {
@@ -80,19 +81,19 @@ impl<K: Kind> Tag<K> {
                 .link
                 .request(family, wake_up, slots)
                 .then(|| self.answer()),
-            Frame::SlotMarker { slot } if self.link.state == State::Requested(slot) => {
-                self.link.state = State::Declared;
+            Frame::SlotMarker { slot } if self.link.state == State::requested(slot) => {
+                self.link.state = State::DECLARED;
                 Some(self.answer())
             }
             Frame::Attrib { serial, cid } if self.is_declared(serial) => {
-                self.link.state = State::Active(cid);
+                self.link.state = State::active(cid);
                 Some(Said::Byte(cid))
             }
             Frame::Halt { serial } if self.is_declared(serial) => {
-                self.link.state = State::Halted;
+                self.link.state = State::HALTED;
                 Some(Said::Byte(0x00))
             }
-            Frame::Command(ref command) if self.link.state == State::Active(command.cid()) => {
+            Frame::Command(ref command) if self.link.state == State::active(command.cid()) => {
                 self.obey(command)
             }
             _ => None,
@@ -100,7 +101,7 @@ impl<K: Kind> Tag<K> {
     }
 
     fn is_declared(&self, serial: Serial) -> bool {
-        self.link.state == State::Declared && first_half(&self.kind.pages()[0]) == serial
+        self.link.state == State::DECLARED && first_half(&self.kind.pages()[0]) == serial
     }
 
     fn answer(&self) -> Said {
@@ -114,7 +115,7 @@ impl<K: Kind> Tag<K> {
     fn obey(&mut self, command: &Command) -> Option<Said> {
         let head = command.head;
         let outcome = if command.op == Op::Deselect {
-            self.link.state = State::Halted;
+            self.link.state = State::HALTED;
             Ok(Done::Acknowledged)
         } else {
             self.kind.obey(command)?
