@@ -46,7 +46,8 @@ impl<'a> Fields<'a> {
             count: 0,
         };
         let mut start = 0;
-        for (at, &byte) in text.iter().take(LINE_MOST + 1).enumerate() {
+        let reach = &text[..text.len().min(LINE_MOST + 1)];
+        for (at, &byte) in reach.iter().enumerate() {
             // digits and letters stand above both
             if byte <= b',' && (byte == b',' || byte == b'\n') {
                 if let Some(field) = line.fields.get_mut(line.count) {
