@@ -14,14 +14,18 @@ impl Message {
     }
 
     /// A body of up to 14 bytes, with its check bytes behind it.
-    pub fn sealed<E: Ears>(body: &[u8]) -> Message {
+    pub fn sealed<E: Ears, const N: usize>(body: [u8; N]) -> Message {
         let mut bytes = [0; 16];
-        bytes[..body.len()].copy_from_slice(body);
-        bytes[body.len()..][..2].copy_from_slice(&check_bytes::<E>(body));
-        Message {
-            bytes,
-            len: body.len() + 2,
-        }
+        bytes[..N].copy_from_slice(&body);
+        Message::new(bytes, N).seal::<E>()
+    }
+
+    /// The same of a body that is a message already.
+    pub fn seal<E: Ears>(mut self) -> Message {
+        let check = check_bytes::<E>(self.as_slice());
+        self.bytes[self.len..][..2].copy_from_slice(&check);
+        self.len += 2;
+        self
     }
 
     pub fn as_slice(&self) -> &[u8] {

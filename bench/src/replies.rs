@@ -1,14 +1,14 @@
 //! What tags say to a frame, and what a reader hears of it.
 
 use crate::ears::Ears;
-use crate::frames::{Page, Serial};
+use crate::frames::Page;
 use crate::message::Message;
 
 /// What one tag says.
 #[derive(Clone, Copy)]
 pub enum Said {
-    /// ATQB: the answer to a request.
-    Answer { serial: Serial, application: [u8; 4] },
+    /// ATQB, the answer to a request, with serial number and application data.
+    Answer([u8; 8]),
     /// The card number after ATTRIB, or 0 after HLTB.
     Byte(u8),
     /// A page that was asked for, behind the command's first byte and its own number.
@@ -21,17 +21,18 @@ impl Said {
     /// Its bytes, with check bytes.
     fn message<E: Ears>(self) -> Message {
         match self {
-            Said::Answer {
-                serial: [s0, s1, s2, s3],
-                application: [a0, a1, a2, a3],
-            } => Message::sealed::<E>(&[0x50, s0, s1, s2, s3, a0, a1, a2, a3, 0x00, 0x00, 0x41]),
-            Said::Byte(byte) => Message::sealed::<E>(&[byte]),
-            Said::Page {
-                head,
-                number,
-                page: [p0, p1, p2, p3, p4, p5, p6, p7],
-            } => Message::sealed::<E>(&[head, number, p0, p1, p2, p3, p4, p5, p6, p7]),
-            Said::Status { head, status } => Message::sealed::<E>(&[head, status]),
+            Said::Answer(memory) => {
+                let mut body = [0x50, 0, 0, 0, 0, 0, 0, 0, 0, 0x00, 0x00, 0x41];
+                body[1..9].copy_from_slice(&memory);
+                Message::sealed::<E, _>(body)
+            }
+            Said::Byte(byte) => Message::sealed::<E, _>([byte]),
+            Said::Page { head, number, page } => {
+                let mut body = [head, number, 0, 0, 0, 0, 0, 0, 0, 0];
+                body[2..].copy_from_slice(&page);
+                Message::sealed::<E, _>(body)
+            }
+            Said::Status { head, status } => Message::sealed::<E, _>([head, status]),
         }
     }
 }

@@ -157,7 +157,7 @@ fn bytes(field: &[u8]) -> Result<([u8; 16], usize), Refusal> {
 /// One to 14 bytes, and check bytes behind them.
 fn sealed_bytes<E: Ears>(field: &[u8]) -> Result<Message, Refusal> {
     match bytes(field)? {
-        (bytes, len @ ..=14) => Ok(Message::sealed::<E>(&bytes[..len])),
+        (bytes, len @ ..=14) => Ok(Message::new(bytes, len).seal::<E>()),
         _ => Err(Refusal::FieldForm),
     }
 }

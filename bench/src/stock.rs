@@ -59,16 +59,15 @@ impl Stock {
 
 /// The request for sixteen slots belongs to the first of them, markers to the others.
 fn slot_frame<E: Ears>(slot: u8, wake_up: bool) -> Message {
-    let body: &[u8] = match (slot, wake_up) {
-        (1, true) => &[0x05, 0x00, 0x0C],
-        (1, false) => &[0x05, 0x00, 0x04],
-        _ => &[(slot - 1) << 4 | 5],
-    };
-    Message::sealed::<E>(body)
+    match (slot, wake_up) {
+        (1, true) => Message::sealed::<E, _>([0x05, 0x00, 0x0C]),
+        (1, false) => Message::sealed::<E, _>([0x05, 0x00, 0x04]),
+        _ => Message::sealed::<E, _>([(slot - 1) << 4 | 5]),
+    }
 }
 
 fn halt_frame<E: Ears>([s0, s1, s2, s3]: Serial) -> Message {
-    Message::sealed::<E>(&[0x50, s0, s1, s2, s3])
+    Message::sealed::<E, _>([0x50, s0, s1, s2, s3])
 }
 
 /// The serial number in a sound answer to a request.

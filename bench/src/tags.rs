@@ -101,15 +101,15 @@ impl<K: Kind> Tag<K> {
     }
 
     fn is_declared(&self, serial: Serial) -> bool {
-        self.link.state == State::DECLARED && first_half(&self.kind.pages()[0]) == serial
+        self.link.state == State::DECLARED && self.kind.pages()[0][..4] == serial
     }
 
     fn answer(&self) -> Said {
         let pages = self.kind.pages();
-        Said::Answer {
-            serial: first_half(&pages[0]),
-            application: first_half(&pages[1]),
-        }
+        let mut memory = [0; 8];
+        memory[..4].copy_from_slice(&pages[0][..4]);
+        memory[4..].copy_from_slice(&pages[1][..4]);
+        Said::Answer(memory)
     }
 
     fn obey(&mut self, command: &Command) -> Option<Said> {
@@ -133,10 +133,4 @@ impl<K: Kind> Tag<K> {
             },
         })
     }
-}
-
-/// The serial number of page 0, or the application data of page 1.
-fn first_half(page: &Page) -> [u8; 4] {
-    let [a, b, c, d, ..] = *page;
-    [a, b, c, d]
 }
