@@ -70,18 +70,9 @@ impl Tray {
         let mut replies = Replies::default();
         if self.field {
             let on_air = E::put_on_air(frame);
-            tell_row::<E, Pump>(&mut self.front, &on_air, &mut replies);
-            tell_row::<E, Gauge>(&mut self.back, &on_air, &mut replies);
+            E::tell_row(&on_air, &mut self.front, &mut replies);
+            E::tell_row(&on_air, &mut self.back, &mut replies);
         }
         replies.sound::<E>()
-    }
-}
-
-/// Each tag hears in its place.
-fn tell_row<E: Ears, K: Kind>(row: &mut [Tag<K>], on_air: &E::OnAir<'_>, replies: &mut Replies) {
-    for tag in row {
-        if let Some(frame) = E::hear(on_air) {
-            replies.add(tag.hear(&frame));
-        }
     }
 }
