@@ -52,7 +52,8 @@ impl Link {
     /// Hears a request, and tells whether to answer. Of several slots one is drawn; the first is answered at once.
     pub fn request(&mut self, family: u8, wake_up: bool, slots: u8) -> bool {
         let halted = self.state == State::HALTED;
-        if self.state == State::OFF || self.state.is_active() || halted && (!wake_up || family > 1) {
+        if self.state == State::OFF || self.state.is_active() || halted && (!wake_up || family > 1)
+        {
             return false;
         }
         self.state = if family > 1 {

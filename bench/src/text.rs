@@ -40,7 +40,8 @@ impl Text {
             *pair = PAIRS[usize::from(byte)];
         }
         self.bytes.push(b',');
-        self.bytes.extend_from_slice(pairs[..bytes.len()].as_flattened());
+        self.bytes
+            .extend_from_slice(pairs[..bytes.len()].as_flattened());
         self.bytes.push(b'\n');
     }
 

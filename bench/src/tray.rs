@@ -54,7 +54,11 @@ impl Tray {
     }
 
     pub fn set_placed(&mut self, tag: usize, placed: bool) -> Result<(), Refusal> {
-        fn set<K: Kind>(tag: Option<&mut Tag<K>>, placed: bool, field: bool) -> Result<(), Refusal> {
+        fn set<K: Kind>(
+            tag: Option<&mut Tag<K>>,
+            placed: bool,
+            field: bool,
+        ) -> Result<(), Refusal> {
             tag.ok_or(Refusal::NoSuchTag)?.set_placed(placed, field);
             Ok(())
         }
