@@ -1,7 +1,7 @@
 -- Runs: what every call keeps of the pump tags in one row of a tray.
 use Rattle.std.proofs.Common.{◌≡◌, ℕ, ◌+◌, ◌&&◌, List, [], ◌∷◌, ◌++◌, Some, None, Option, sym, refl, subst}
 use Rattle.typeb.specs.Hears.{heard}
-use Rattle.tags.specs.Kinds.{Behaviour}
+use Rattle.kinds.specs.Kinds.{Behaviour}
 use Rattle.tags.proofs.Moves.{Good, Moves, moves_serial, moves_trans}
 use Rattle.tray_core.specs.Laws.{Kept, Counted, pump_at, here_at, brings}
 use Rattle.tray_core.specs.Runs.{Turn, turn, run}

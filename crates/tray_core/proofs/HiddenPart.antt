@@ -1,6 +1,6 @@
 -- No caller can tell two trays apart that differ only in what one closed tag hides.
 use Rattle.std.proofs.Common.{◌≡◌, ℕ, ◌-◌, Bool, true, false, cond, ltb, List, [], ◌∷◌, ◌++◌, length, drop, Some, None, Ok, Option, refl, ap, subst, ap₂}
-use Rattle.tags.specs.Kinds.{Behaviour, Duties}
+use Rattle.kinds.specs.Kinds.{Behaviour, Duties}
 use Rattle.tray_core.specs.Laws.{Hiding}
 use Rattle.tray_core.specs.Rows.{Post, change_at, placed, lifted}
 use Rattle.tray_core.specs.Runs.{Turn, Seen, Which, front, back, turn, run, seen, accepts, NoneInScript, NoneInCall, NoCheck, Apart}

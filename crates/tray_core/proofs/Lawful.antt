@@ -1,6 +1,6 @@
 -- The whole law, for two kinds that keep their duties.
 use Rattle.std.proofs.Common.{◌≡◌, ℕ, zero, suc, Bool, false, cond, List, [], ◌∷◌, map, slice_get, refl, ap}
-use Rattle.tags.specs.Kinds.{Meaning, Behaviour, Duties}
+use Rattle.kinds.specs.Kinds.{Meaning, Behaviour, Duties}
 use Rattle.tray_core.specs.Laws.{AllHere, AcceptsItself, Law, place_accepts}
 use Rattle.tray_core.specs.Rows.{Post, accepts_at}
 use Rattle.tray_core.specs.Trays.{present}

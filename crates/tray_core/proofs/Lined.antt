@@ -2,7 +2,7 @@
 use Rattle.std.proofs.Common.{◌≡◌, ℕ, zero, suc, Bool, true, List, [], ◌∷◌, map, length, replicate, vec_items, vec_len, sym, refl, ap, ◌∙◌}
 use Rattle.std.specs.Vec.{with_items}
 use Rattle.std.proofs.lemmas.List.{length-map, with_items_is}
-use Rattle.tags.specs.Kinds.{Meaning}
+use Rattle.kinds.specs.Kinds.{Meaning}
 use Rattle.tray_core.specs.declared.row.Row.{Row}
 use Rattle.tray_core.specs.Trays.{present}
 use Rattle.tray_core.specs.Views.{posts, row_of}

@@ -1,6 +1,6 @@
 -- No run undoes a lock or loses a count, in front and behind.
 use Rattle.std.proofs.Common.{◌-◌, Bool, true, false, cond, refl}
-use Rattle.tags.specs.Kinds.{Behaviour}
+use Rattle.kinds.specs.Kinds.{Behaviour}
 use Rattle.tags.specs.Pump.{pump_acts}
 use Rattle.tray_core.specs.Laws.{LocksFront, LocksBack, CountsFront, CountsBack, counts_front, counts_back}
 use Rattle.tray_core.specs.Trays.{in_front}

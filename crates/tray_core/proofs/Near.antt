@@ -1,6 +1,6 @@
 -- Rows that differ at most in what one closed tag hides, and all that a tray does to a row: they stay so.
 use Rattle.std.proofs.Common.{◌≡◌, ℕ, zero, suc, Bool, true, false, List, [], ◌∷◌, map, length, Some, None, Option, refl, ap, subst}
-use Rattle.tags.specs.Kinds.{Meaning, Behaviour, Duties, Twins}
+use Rattle.kinds.specs.Kinds.{Meaning, Behaviour, Duties, Twins}
 use Rattle.tray_core.specs.Rows.{Post, if_here, change_at, row_gains, row_loses, placed, lifted, voice_at, row_hears, row_sounds, accepts_at}
 use Rattle.tray_core.specs.Runs.{ApartAt}
 use Rattle.tray_core.specs.Sounds.{voice, meet}

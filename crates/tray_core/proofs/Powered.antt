@@ -2,7 +2,7 @@
 use Rattle.std.proofs.Common.{◌≡◌, ℕ, zero, suc, ◌-◌, Bool, true, false, cond, not, ◌&&◌, List, [], ◌∷◌, map, Some, None, Option, sym, refl, ◌∙◌, subst}
 use Rattle.std.proofs.lemmas.Bool.{cond_both}
 use Rattle.tags.specs.Common.{Shown, is_off_tag}
-use Rattle.tags.specs.Kinds.{Behaviour}
+use Rattle.kinds.specs.Kinds.{Behaviour}
 use Rattle.tags.specs.Pump.{PumpMeaning, pump_acts}
 use Rattle.tags.proofs.Conducts.{has_power}
 use Rattle.tags.proofs.Moves.{made_off}

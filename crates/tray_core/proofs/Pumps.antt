@@ -8,7 +8,7 @@ use Rattle.tags.specs.Common.{reacts_by}
 use Rattle.tags.specs.Links.{answers_to}
 use Rattle.tags.specs.Pages.{unlocked, counter_in}
 use Rattle.tags.specs.Pump.{PumpMeaning, pump_acts, pump_obeys, page_of, asks, passes}
-use Rattle.tags.specs.Reacts.{Reaction, answered, says_at}
+use Rattle.kinds.specs.Reacts.{Reaction, answered, says_at}
 use Rattle.tags.specs.Rules.{reading_of, writing_of, ever_read, read_now, by_write}
 use Rattle.tags.proofs.Moves.{Good, Moves, moves_same, written_moves, locked_moves, counted_moves}
 use Rattle.tags.specs.Conduct.{acknowledges}

@@ -4,7 +4,7 @@ use Rattle.std.proofs.lemmas.Bool.{and_parts, cond_both, ne_eqb, le-leb, leb-tru
 use Rattle.std.proofs.lemmas.Bool.Decides.{nat_tests}
 use Rattle.std.proofs.lemmas.Option.{slice_get-map}
 use Rattle.std.proofs.Math.Dec.{eqb-suc-suc, eqb-suc-zero, eqb-zero-suc}
-use Rattle.tags.specs.Kinds.{Meaning, Behaviour}
+use Rattle.kinds.specs.Kinds.{Meaning, Behaviour}
 use Rattle.tray_core.specs.declared.calls.Answer.{Answer}
 use Rattle.tray_core.specs.Rows.{Post, if_here, change_at, placed, lifted, hearing, row_sounds}
 use Rattle.tray_core.specs.Sounds.{Sounds, Silence, Reply, meet, voice, audible, count_replies}

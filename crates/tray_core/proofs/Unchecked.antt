@@ -3,7 +3,7 @@ use Rattle.std.proofs.Common.{◌≡◌, ℕ, zero, suc, Bool, false, List, [], 
 use Rattle.std.proofs.lemmas.Bool.{cond_both, and_left}
 use Rattle.typeb.specs.Hears.{heard}
 use Rattle.tags.specs.Conduct.{is_check}
-use Rattle.tags.specs.Kinds.{Behaviour}
+use Rattle.kinds.specs.Kinds.{Behaviour}
 use Rattle.tags.specs.Pump.{PumpMeaning, pump_acts}
 use Rattle.tags.proofs.Conducts.{conduct}
 use Rattle.tray_core.specs.Laws.{NoneSent, UncheckedFront, UncheckedBack, sends_check}

@@ -4,13 +4,13 @@ use Rattle.std.specs.Prelude.{◌≡◌, ℕ, zero, suc, ◌+◌, ◌<◌, ◌�
 use Rattle.typeb.specs.declared.frames.Op.TheVariants as op
 use Rattle.typeb.specs.Hears as hears
 use Rattle.typeb.specs.Hears.{Heard, heard}
-use Rattle.tags.specs.Kinds.{Meaning, Behaviour}
+use Rattle.kinds.specs.Kinds.{Meaning, Behaviour}
 use Rattle.tags.specs.Common.{Shown, is_off_tag, reacts_by}
 use Rattle.tags.specs.Conduct.{acknowledges, is_check}
 use Rattle.tags.specs.Making.{new_pump, pump_made}
 use Rattle.tags.specs.Pages.{lock_bit, counter_in, serial_in}
 use Rattle.tags.specs.Pump.{PumpMeaning, pump_acts, pump_obeys, page_of}
-use Rattle.tags.specs.Reacts.{says_to}
+use Rattle.kinds.specs.Reacts.{says_to}
 use Rattle.tray_core.specs.Rows.{Post}
 use Rattle.tray_core.specs.Runs.{Turn, Which, turn, run, seen, accepts, NoCheck, Apart}
 use Rattle.tray_core.specs.Runs.{front as of_front, back as of_back}

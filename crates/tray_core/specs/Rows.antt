@@ -1,6 +1,6 @@
 -- A row of tags of one kind.
 use Rattle.std.specs.Prelude.{ℕ, zero, suc, Bool, true, false, cond, List, [], ◌∷◌, map}
-use Rattle.tags.specs.Kinds.{Meaning, Behaviour}
+use Rattle.kinds.specs.Kinds.{Meaning, Behaviour}
 use Rattle.tray_core.specs.Sounds.{Sounds, Silence, voice, meet}
 
 -- A place in a row: whether its tag is on the tray, and the tag.

@@ -1,6 +1,6 @@
 -- Runs: a list of calls, each with a buffer and a list of its own.
 use Rattle.std.specs.Prelude.{◌≡◌, ℕ, zero, suc, Bool, false, cond, List, [], ◌∷◌, Some, None, Option, Result}
-use Rattle.tags.specs.Kinds.{Behaviour, Twins}
+use Rattle.kinds.specs.Kinds.{Behaviour, Twins}
 use Rattle.tray_core.specs.declared.calls.Answer.{Answer}
 use Rattle.tray_core.specs.Rows.{Post, accepts_at}
 use Rattle.tray_core.specs.Scripts.{Script, done, send}

@@ -8,7 +8,7 @@ use crate::calls::Answer;
 use crate::sounds::Sounds;
 use crate::tray::Tray;
 use refusals::Refusal;
-use tags::kind::Kind;
+use kinds::kind::Kind;
 
 impl<F: Kind, B: Kind> Tray<F, B> {
     // Every tag with power hears the frame. One reply goes to the front of the buffer; other bytes stay.

@@ -9,7 +9,7 @@ ghost use Rattle.tray_core.specs.Views.{model_of};
 use crate::calls::{Answer, Call};
 use crate::tray::Tray;
 use refusals::Refusal;
-use tags::kind::Kind;
+use kinds::kind::Kind;
 use typeb::frames::Serial;
 
 impl<F: Kind, B: Kind> Tray<F, B> {

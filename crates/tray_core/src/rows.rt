@@ -9,7 +9,7 @@ ghost use Rattle.tray_core.specs.Views.{row_of, sounds_in, how_many};
 use crate::hearing::tell_tag;
 use crate::row::Row;
 use crate::sounds::Sounds;
-use tags::kind::Kind;
+use kinds::kind::Kind;
 use typeb::received::Received;
 
 // A tag gains power, or loses it.

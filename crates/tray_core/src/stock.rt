@@ -14,7 +14,7 @@ use crate::sounds::Sounds;
 use crate::speaking::{answering_serial, halt_frame, slot_frame};
 use crate::tray::{Rows, Tray};
 use refusals::Refusal;
-use tags::kind::Kind;
+use kinds::kind::Kind;
 use typeb::frames::Serial;
 use typeb::message::Message;
 

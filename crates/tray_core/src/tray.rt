@@ -11,7 +11,7 @@ use crate::calls::Answer;
 use crate::row::{Row, TooLong};
 use crate::sounds::Sounds;
 use refusals::Refusal;
-use tags::kind::Kind;
+use kinds::kind::Kind;
 use typeb::received::Received;
 
 // A front row, a back row and the field.

@@ -3,7 +3,7 @@ use Rattle.std.proofs.Common.{◌≡◌, ℕ, ◌+◌, ◌≤◌, true, leb, Lis
 use Rattle.std.proofs.lemmas.Bool.{le-leb}
 use Rattle.typeb.specs.CheckBytes.{sealed, SealedInto}
 use Rattle.typeb.proofs.Buffers.{length_sealed}
-use Rattle.tags.specs.Kinds.{Placed}
+use Rattle.kinds.specs.Kinds.{Placed}
 use Rattle.std.specs.List.{range_with_len}
 use Rattle.std.proofs.lemmas.List.FromFn.{fill_by_all}
 

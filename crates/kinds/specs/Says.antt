@@ -2,11 +2,11 @@
 use Rattle.std.specs.Prelude.{ℕ, ◌%◌, List, [], ◌∷◌, ◌++◌, Some, None, Option, Bool, cond, Ok, Err, Result}
 use Rattle.typeb.specs.CheckBytes.{sealed}
 use Rattle.typeb.specs.Hears.{Heard, Request, SlotMarker, Attrib, Halt, Command, head_of}
-use Rattle.tags.specs.declared.said.Nack.{Nack}
-use Rattle.tags.specs.declared.said.Nack.TheVariants.{Locked, Invalid, NotOpen}
-use Rattle.tags.specs.declared.said.Echo.{Echo}
-use Rattle.tags.specs.declared.said.Said.{Said}
-use Rattle.tags.specs.declared.said.Said.TheVariants as said
+use Rattle.kinds.specs.declared.said.Nack.{Nack}
+use Rattle.kinds.specs.declared.said.Nack.TheVariants.{Locked, Invalid, NotOpen}
+use Rattle.kinds.specs.declared.said.Echo.{Echo}
+use Rattle.kinds.specs.declared.said.Said.{Said}
+use Rattle.kinds.specs.declared.said.Said.TheVariants as said
 
 -- What a tag can say.
 pub data Says : Type 0 where

@@ -2,8 +2,8 @@
 ghost use Rattle.std.specs.Prelude.{◌≡◌, ℕ, ◌+◌, ◌≤◌, [], ◌∷◌, ◌++◌, length};
 ghost use Rattle.typeb.specs.CheckBytes.{sealed};
 ghost use Rattle.typeb.specs.Hears.{frame_of};
-ghost use Rattle.tags.specs.Kinds.{Placed};
-ghost use Rattle.tags.specs.Says.{Answer, Page, protocol_info, nack_code, repeated, page_repeated, echo, page_named, said_body, reply_bytes, says_of, saying_of, done_said, page_said};
+ghost use Rattle.kinds.specs.Kinds.{Placed};
+ghost use Rattle.kinds.specs.Says.{Answer, Page, protocol_info, nack_code, repeated, page_repeated, echo, page_named, said_body, reply_bytes, says_of, saying_of, done_said, page_said};
 
 use typeb::crc::seal_into;
 use typeb::frames::{Frame, Serial};

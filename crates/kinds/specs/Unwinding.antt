@@ -1,17 +1,10 @@
--- What every kind's duties rest on: tags by their parts, hearing by reading and reacting, and the link of an off tag.
-use Rattle.std.specs.Prelude.{◌≡◌, ℕ, Bool, true, false, ◌&&◌, List, [], Some, None, Option, ◌==◌, refl}
+-- What the duties of a kind rest on: closed tags by their parts, and hearing by reading a frame and reacting to it.
+use Rattle.std.specs.Prelude.{◌≡◌, Bool, true, false, ℕ, List, [], Some, None, Option, refl}
 use Rattle.std.proofs.Common.{sym, ap, ◌∙◌, subst}
-use Rattle.std.specs.Str.{bytes_eq}
-use Rattle.std.proofs.lemmas.Bool.{false≢true, cond-false}
-use Rattle.typeb.specs.Hears.{Heard, Request, SlotMarker, Attrib, Halt, Command, heard}
-use Rattle.tags.specs.declared.link.Link.{Link}
-use Rattle.tags.specs.declared.link.State.{State}
-use Rattle.tags.specs.declared.link.State.TheVariants.{Off, Idle, Requested, Declared, Halted, Active}
-use Rattle.tags.specs.Kinds.{Meaning, Twins}
-use Rattle.tags.specs.Links.{LinkHears, is_off, is_declared, is_active, answers_to, listens, link_hears, hears_request, hears_marker, hears_attrib, hears_halt}
-use Rattle.tags.specs.Links as links
-use Rattle.tags.specs.Says.{Answer, protocol_info, reply_bytes}
-use Rattle.tags.specs.Reacts.{Reaction, unmoved, answered, hears_by}
+use Rattle.typeb.specs.Hears.{Heard, heard}
+use Rattle.kinds.specs.Kinds.{Meaning, Twins}
+use Rattle.kinds.specs.Says.{reply_bytes}
+use Rattle.kinds.specs.Reacts.{Reaction, unmoved, answered, hears_by}
 
 module _ {S H : Type 0} where
   -- a closed tag, by what it shows and hides
@@ -57,22 +50,3 @@ module _ {S H : Type 0} where
         → ((answered reacts m o).reply ≡ []) × ((answered reacts m o).after ≡ m)
     silent_by m still (Some frame) = (ap (λ (r : Reaction (Meaning S H)). reply_bytes frame r.says) (still frame), ap (λ (r : Reaction (Meaning S H)). r.after) (still frame))
     silent_by m still None = (refl, refl)
-
--- no frame moves the link of an off tag
-off_state : (s : State) → is_off s ≡ true → s ≡ Off
-off_state Off h = refl
-off_state Idle h = absurd (false≢true h)
-off_state (Requested slot) h = absurd (false≢true h)
-off_state Declared h = absurd (false≢true h)
-off_state Halted h = absurd (false≢true h)
-off_state Active h = absurd (false≢true h)
-
-pub off_link : (serial application : List ℕ) (frame : Heard) (link : Link) → is_off link.state ≡ true → link_hears serial application frame link ≡ links.unmoved link
-off_link serial application (Request family wake_up slots) link h = cond-false (listens link.state wake_up) _ _ (ap (λ (s : State). listens s wake_up) (off_state link.state h))
-off_link serial application (SlotMarker slot) link h = ap (hears_marker (Answer serial application protocol_info) slot link) (off_state link.state h)
-off_link serial application (Attrib named params inf) link h = cond-false (is_declared link.state && bytes_eq named serial) _ _ (ap (λ (s : State). is_declared s && bytes_eq named serial) (off_state link.state h))
-off_link serial application (Halt named) link h = cond-false (is_declared link.state && bytes_eq named serial) _ _ (ap (λ (s : State). is_declared s && bytes_eq named serial) (off_state link.state h))
-off_link serial application (Command op cid address bytes) link h = refl
-
-pub off_answers : (cid : ℕ) (link : Link) → is_off link.state ≡ true → answers_to cid link ≡ false
-off_answers cid link h = ap (λ (s : State). is_active s && cid == link.cid) (off_state link.state h)

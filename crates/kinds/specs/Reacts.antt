@@ -1,9 +1,9 @@
 -- From what is heard in a frame to the bytes that are answered: the same for every kind.
 use Rattle.std.specs.Prelude.{◌≡◌, ℕ, Bool, false, List, [], Some, None, Option}
 use Rattle.typeb.specs.Hears.{Heard, heard}
-use Rattle.tags.specs.declared.said.Said.{Said}
-use Rattle.tags.specs.Kinds.{Meaning, Hears}
-use Rattle.tags.specs.Says.{Says, reply_bytes, saying_of}
+use Rattle.kinds.specs.declared.said.Said.{Said}
+use Rattle.kinds.specs.Kinds.{Meaning, Hears}
+use Rattle.kinds.specs.Says.{Says, reply_bytes, saying_of}
 
 -- What a tag does with what it heard: what it is then, what it says, and whether it accepted a check.
 pub record Reaction (M : Type 0) : Type 0 where

@@ -1,6 +1,6 @@
 use Rattle.std.proofs.Common.{◌≡◌, ℕ, ◌+◌, ◌/◌, ◌%◌, [], ◌∷◌, ap, ◌∙◌, arith}
 use Rattle.std.proofs.lemmas.Grind.{common_steps}
-use Rattle.tags.proofs.pump.PumpTag.count.Goals as goal
+use Rattle.tags.proofs.pump.Linked+PumpPages.count.Goals as goal
 
 pub returns : goal.returns
 returns c =

@@ -1,7 +1,7 @@
 // The interface of a kind of tag.
 ghost use Rattle.std.specs.Prelude.{◌≡◌, ℕ, Bool};
 ghost use Rattle.typeb.specs.Receives.{on_air};
-ghost use Rattle.tags.specs.Kinds.{Meaning, Behaviour, Duties, Told};
+ghost use Rattle.kinds.specs.Kinds.{Meaning, Behaviour, Duties, Told};
 
 use typeb::received::Received;
 
@@ -32,17 +32,10 @@ pub trait Kind: Copy {
     fn lose_power(&mut self)
         ensures { means self.new ≡ acts.loses (means self.old) };
 
-    // Hears a frame, in place. The reply, of 0 to 16 bytes, goes to the front of the lent buffer. Every kind hears raw bytes, so
-    // this stays beside the next.
-    fn hear(&mut self, frame: &[u8], reply: &mut [u8; 16]) -> Hearing
-        ensures { Told (acts.hears frame.now (means self.old)) (means self.new) reply.old reply.new result.len result.accepted };
-
-    // The same of a frame that was read once for every tag; a kind that takes the reading need not read it again.
-    fn hear_received(&mut self, frame: &Received<'_>, reply: &mut [u8; 16]) -> Hearing
-        ensures { Told (acts.hears (on_air frame.now) (means self.old)) (means self.new) reply.old reply.new result.len result.accepted }
-    {
-        self.hear(frame.bytes(), reply)
-    }
+    // Hears a frame, in place. It was read once for every tag; what is heard is a matter of its raw bytes alone, so a kind may
+    // read them otherwise. The reply, of 0 to 16 bytes, goes to the front of the lent buffer.
+    fn hear(&mut self, frame: &Received<'_>, reply: &mut [u8; 16]) -> Hearing
+        ensures { Told (acts.hears (on_air frame.now) (means self.old)) (means self.new) reply.old reply.new result.len result.accepted };
 
     ghost duties: { Duties off acts };
 }
