@@ -79,11 +79,11 @@ reads (Count cid signature) = judged_data (head_of op.Count cid) true true
 abbrev pub judged : Asked → List ℕ → Result Says ℕ
 judged command bytes = then (sound_body (fits command (length bytes)) bytes) (reads command)
 
--- What a value of the code stands for.
+-- What a value of the code stands for, with the page that it points to.
 abbrev pub said_in : Reply → Says
 said_in (reply.Answer serial application protocol) = Answer serial application protocol
 said_in (reply.Card cid) = Card cid
-said_in (reply.Page bytes) = Page bytes
+said_in (reply.Page bytes) = Page bytes.now
 said_in reply.Acknowledged = Acknowledged
 said_in (reply.Refused code) = Refused code
 
