@@ -48,12 +48,16 @@ judged_data head may_ack may_nack body =
     asked (slice_index body 0 == head) 11
     (judged_status may_ack may_nack (slice_index body 1))
 
--- READ brings a page behind its number, or a refusal.
-abbrev pub judged_page : ℕ → ℕ → List ℕ → Result Says ℕ
-judged_page head page body =
-    if length body == 10 then
+-- A page behind its number.
+abbrev pub judged_content : ℕ → ℕ → List ℕ → Result Says ℕ
+judged_content head page body =
     asked (slice_index body 0 == head && slice_index body 1 == page) 11
     (Ok (Page (drop 2 body)))
+
+-- READ brings a page or a refusal.
+abbrev pub judged_page : ℕ → ℕ → List ℕ → Result Says ℕ
+judged_page head page body =
+    if length body == 10 then judged_content head page body
     else judged_data head false true body
 
 -- The lengths that a command can bring.
