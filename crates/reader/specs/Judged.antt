@@ -34,7 +34,8 @@ judged_answer body =
 abbrev pub judged_byte : ℕ → Says → List ℕ → Result Says ℕ
 judged_byte byte says body = asked (slice_index body 0 == byte) 11 (Ok says)
 
--- The second byte's low nibble is 0 for done and 1 for not done; the high nibble counts only in a refusal's code.
+-- The second byte's low nibble is 0 for done and 1 for not done; the high nibble counts only in a
+-- refusal's code.
 abbrev pub judged_status : Bool → Bool → ℕ → Result Says ℕ
 judged_status may_ack may_nack status =
     if may_ack && status % 16 == 0 then Ok Acknowledged
@@ -47,11 +48,16 @@ judged_data head may_ack may_nack body =
     asked (slice_index body 0 == head) 11
     (judged_status may_ack may_nack (slice_index body 1))
 
--- READ brings a page behind its number, or a refusal.
+-- A page behind its number.
+abbrev pub judged_content : ℕ → ℕ → List ℕ → Result Says ℕ
+judged_content head page body =
+    asked (slice_index body 0 == head && slice_index body 1 == page) 11
+    (Ok (Page (drop 2 body)))
+
+-- READ brings a page or a refusal.
 abbrev pub judged_page : ℕ → ℕ → List ℕ → Result Says ℕ
 judged_page head page body =
-    if length body == 10 then
-        asked (slice_index body 0 == head && slice_index body 1 == page) 11 (Ok (Page (drop 2 body)))
+    if length body == 10 then judged_content head page body
     else judged_data head false true body
 
 -- The lengths that a command can bring.
@@ -82,8 +88,8 @@ reads (Count cid signature) = judged_data (head_of op.Count cid) true true
 
 abbrev pub judged : Asked → List ℕ → Result Says ℕ
 judged command bytes = do
-    body ← sound_body (fits command (length bytes)) bytes
-    reads command body
+  body ← sound_body (fits command (length bytes)) bytes
+  reads command body
 
 -- What a value of the code stands for, with the page that it points to.
 abbrev pub said_in : Reply → Says

@@ -3,7 +3,8 @@ use Rattle.std.specs.Prelude.{◌≡◌, ℕ, ◌+◌, ◌-◌, ◌*◌, ◌<◌
 use Rattle.typeb.specs.CheckBytes.{sealed, sound, body_of, SealedInto}
 use Rattle.typeb.specs.Hears.{Heard, Request, SlotMarker, Attrib, Halt, Command, slot_code, head_of, heard}
 
--- The format of each frame, without its check bytes. Four bits are free: bits 4 to 7 of a request's PARAM.
+-- The format of each frame, without its check bytes. Four bits are free: bits 4 to 7 of a
+-- request's PARAM.
 abbrev pub format : ℕ → Heard → List ℕ
 -- 05, family code, PARAM: the free bits, the bit of WUPB, the code of the number of slots
 format free (Request family wake_up slots) =
@@ -33,8 +34,8 @@ pub record Carries (h : Heard) (body : List ℕ) : Type 0 where
   pub four_bits : free < 16
   pub same : body ≡ format free h
 
--- What is heard in a frame is what it carries: nothing is heard that it does not carry, or in an unsound frame,
--- and whatever a sound frame carries is heard.
+-- What is heard in a frame is what it carries: nothing is heard that it does not carry, or in an
+-- unsound frame, and whatever a sound frame carries is heard.
 pub record HearsExactly (frame : List ℕ) : Type 0 where
   pub only : (h : Heard) → heard frame ≡ Some h → (sound frame ≡ true) × Carries h (body_of frame)
   pub all : (h : Heard) → sound frame ≡ true → Carries h (body_of frame) → heard frame ≡ Some h
