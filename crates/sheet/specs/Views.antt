@@ -1,21 +1,22 @@
 -- What the values of the code stand for.
-use Rattle.std.specs.Prelude.{◌≡◌, ℕ, List, [], map, Some, None, Ok, Err, vec_items, string_bytes, Option, Result}
+use Rattle.std.specs.Prelude.{◌≡◌, ℕ, List, [], ◌++◌, map, Some, None, Ok, Err, vec_items, string_bytes, Option, Result}
 use Rattle.tags.specs.Gauge.{gauge_means}
 use Rattle.tags.specs.Pump.{pump_means}
 use Rattle.tray_core.specs.Views.{model_of}
 use Rattle.sheet.specs.declared.faults.LineFault.{LineFault}
-use Rattle.sheet.specs.declared.stages.Done.{Done}
-use Rattle.sheet.specs.declared.stages.Named.{Named}
+use Rattle.sheet.specs.declared.naming.Named.{Named}
+use Rattle.sheet.specs.declared.running.Ran.{Ran}
 use Rattle.sheet.specs.declared.stages.Stage as coded
 use Rattle.sheet.specs.declared.stages.Stage.TheVariants as code
-use Rattle.sheet.specs.declared.stops.Ran.{Ran}
+use Rattle.sheet.specs.declared.stops.LineStop.{LineStop}
+use Rattle.sheet.specs.declared.stops.LineStop.TheVariants as line
 use Rattle.sheet.specs.declared.stops.SheetFault.{SheetFault}
 use Rattle.sheet.specs.declared.stops.SheetFault.TheVariants as fault
-use Rattle.sheet.specs.declared.stops.Stop.{Stop}
-use Rattle.sheet.specs.declared.stops.Stop.TheVariants as stop
+use Rattle.sheet.specs.declared.stops.SheetStop.{SheetStop}
+use Rattle.sheet.specs.declared.stops.SheetStop.TheVariants as sheet
 use Rattle.sheet.specs.Drafts.{pump_draft, gauge_draft}
 use Rattle.sheet.specs.Faults.{fault_number}
-use Rattle.sheet.specs.Sheets.{SheetTray, Stage, Naming, Calling, Came, Went, Stopped, Refused, Run, before, stopped_at}
+use Rattle.sheet.specs.Sheets.{SheetTray, Stage, Naming, Calling, Came, Went, Stopped, Refused, Run, before, ended, stopped_at}
 
 abbrev pub named_stage : Named → Stage
 named_stage n = Naming (map pump_draft (vec_items n.front)) (map gauge_draft (vec_items n.back))
@@ -24,18 +25,29 @@ abbrev pub stage_of : coded.Stage → Stage
 stage_of (code.Naming n) = named_stage n
 stage_of (code.Calling tray) = Calling (model_of pump_means gauge_means tray)
 
--- What the code answered of a line is what came of it, unless memory was wanting.
-abbrev pub CameBy : Result Done Stop → Came → Type 0
-CameBy (Ok done) came = came ≡ Went (string_bytes done.text) (stage_of done.stage)
-CameBy (Err (stop.Fault f)) came = came ≡ Stopped (fault_number f)
-CameBy (Err (stop.Memory e)) came = Unit {0}
+-- What came of a line, its text behind an older one.
+abbrev pub came_behind : List ℕ → Came → Came
+came_behind old (Went printed stage) = Went (old ++ printed) stage
+came_behind old (Stopped why) = Stopped why
+
+-- What the code answered of a line that found an old text and left a new one is what came of it, unless memory was wanting.
+abbrev pub CameBy : Result coded.Stage LineStop → List ℕ → List ℕ → Came → Type 0
+CameBy (Ok stage) old new came = came_behind old came ≡ Went new (stage_of stage)
+CameBy (Err (line.Fault f)) old new came = (new ≡ old) × (came ≡ Stopped (fault_number f))
+CameBy (Err (line.Memory e)) old new came = Unit {0}
+
+-- The same of a line that prints nothing.
+abbrev pub QuietBy : Result coded.Stage LineStop → Came → Type 0
+QuietBy (Ok stage) came = came ≡ Went [] (stage_of stage)
+QuietBy (Err (line.Fault f)) came = came ≡ Stopped (fault_number f)
+QuietBy (Err (line.Memory e)) came = Unit {0}
 
 -- The tags that are named, of a stage that is not yet past them.
 abbrev pub NamedBy : Result Named LineFault → Stage → Type 0
 NamedBy (Ok named) stage = stage ≡ named_stage named
 NamedBy (Err f) stage = (tray : SheetTray) × (stage ≡ Calling tray) × (fault_number f ≡ 17)
 
--- The same of a page that is set among the tags that are named.
+-- A page that is set among the tags that are named.
 abbrev pub PagedBy : Result (Unit {0}) LineFault → Named → Came → Type 0
 PagedBy (Ok u) after came = came ≡ Went [] (named_stage after)
 PagedBy (Err f) after came = came ≡ Stopped (fault_number f)
@@ -52,7 +64,14 @@ refused_in None = None
 abbrev pub run_by : Ran → Run
 run_by ran = record { text = string_bytes ran.text; refused = refused_in ran.fault }
 
--- A run that a line stopped by its fault; want of memory answers no run.
-abbrev pub StoppedBy : Stop → ℕ → List ℕ → Run → Type 0
-StoppedBy (stop.Fault f) number printed run = run ≡ before printed (stopped_at number (fault_number f))
-StoppedBy (stop.Memory e) number printed run = ⊥
+-- What stops a line stops the sheet at the line's number.
+abbrev pub stop_at : ℕ → LineStop → SheetStop
+stop_at number (line.Fault f) = sheet.Fault (fault.Line number f)
+stop_at number (line.Memory e) = sheet.Memory e
+
+-- A run of the code that left this text is the run, but for the line of a refusal; want of memory answers no run.
+abbrev pub RanBy : Result (Unit {0}) SheetStop → List ℕ → Run → Type 0
+RanBy (Ok u) printed run = run ≡ before printed ended
+RanBy (Err (sheet.Fault f)) printed run =
+    run ≡ before printed (stopped_at (refused_by f).line (refused_by f).why)
+RanBy (Err (sheet.Memory e)) printed run = Unit {0}

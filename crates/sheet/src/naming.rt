@@ -1,21 +1,26 @@
-// Tag lines and page lines.
-ghost use Rattle.std.specs.Prelude.{◌≡◌, [], map, IfOk, OnOk, string_bytes};
+// The tags that a sheet names, before its first call.
+ghost use Rattle.std.specs.Prelude.{◌≡◌, [], map, IfOk, OnOk};
 ghost use Rattle.sheet.specs.Drafts.{tag_of};
 ghost use Rattle.sheet.specs.Sheets.{Naming, Went, named, paged, tray_in};
-ghost use Rattle.sheet.specs.Views.{named_stage, stage_of, PagedBy};
+ghost use Rattle.sheet.specs.Views.{named_stage, PagedBy};
 ghost use Rattle.tags.specs.Gauge.{gauge_means};
 ghost use Rattle.tags.specs.Pump.{pump_means};
 ghost use Rattle.tray_core.specs.Views.{model_of};
 
-use crate::drafting::set_in_row;
-use crate::drafts::{Draft, GaugeDraft, PumpDraft};
+use crate::drafts::{Draft, GaugeDraft, PumpDraft, set_in_row};
 use crate::faults::LineFault;
-use crate::stages::{Done, Named, Stage};
 use crate::words::TagKind;
 use std::alloc::{AllocError, Global};
 use tags::gauge::GaugeTag;
 use tags::pump::PumpTag;
 use tray_core::tray::Tray;
+
+// The tags that were named so far.
+#[derive(Drop)]
+pub(crate) struct Named {
+    front: Vec<PumpDraft>,
+    back: Vec<GaugeDraft>,
+}
 
 impl Named {
     // No tags.
@@ -52,17 +57,6 @@ impl Named {
             set_in_row(self.front.as_mut_slice(), tag, page, bytes)
         } else {
             set_in_row(self.back.as_mut_slice(), tag - 32, page, bytes)
-        }
-    }
-
-    // The tags so far, where a line printed nothing.
-    pub(crate) fn into_done(self, heap: Global) -> Done
-        ensures text { string_bytes result.text ≡ [] }
-        ensures stage { stage_of result.stage ≡ named_stage self }
-    {
-        Done {
-            stage: Stage::Naming(self),
-            text: String::new(heap),
         }
     }
 
