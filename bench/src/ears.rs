@@ -2,9 +2,11 @@
 
 use crate::crc::{START, fold_bits, fold_table};
 use crate::frames::{Frame, read_body};
+use crate::replies::Replies;
+use crate::tags::{Kind, Tag};
 
 pub trait Ears {
-    /// What each tag is handed while a frame is on the air.
+    /// What a row is handed while a frame is on the air.
     type OnAir<'a>;
 
     /// A byte enters the register of the check bytes.
@@ -13,8 +15,8 @@ pub trait Ears {
     /// A frame is put on the air, once for the whole tray.
     fn put_on_air(frame: &[u8]) -> Self::OnAir<'_>;
 
-    /// A tag hears it.
-    fn hear<'a>(on_air: &Self::OnAir<'a>) -> Option<Frame<'a>>;
+    /// The tags of a row hear it, each in its place, and what they say joins the replies.
+    fn tell_row<K: Kind>(on_air: &Self::OnAir<'_>, row: &mut [Tag<K>], replies: &mut Replies);
 }
 
 /// Every tag reads the raw frame for itself, with check bytes worked out bit by bit.
@@ -31,12 +33,17 @@ impl Ears for Bitwise {
         frame
     }
 
-    fn hear<'a>(on_air: &Self::OnAir<'a>) -> Option<Frame<'a>> {
-        read_frame::<Bitwise>(on_air)
+    fn tell_row<K: Kind>(on_air: &&[u8], row: &mut [Tag<K>], replies: &mut Replies) {
+        for tag in row {
+            if let Some(frame) = read_frame::<Bitwise>(on_air) {
+                replies.add(tag.hear(&frame));
+            }
+        }
     }
 }
 
-/// A frame is read once, with a table for the check bytes, and the tags are handed what stands in it.
+/// A frame is read once, with a table for the check bytes, and the tags are handed what stands in it: all of them a
+/// request, and of other frames those in the one state in which they are heard.
 pub struct Tabled;
 
 impl Ears for Tabled {
@@ -50,8 +57,20 @@ impl Ears for Tabled {
         read_frame::<Tabled>(frame)
     }
 
-    fn hear<'a>(on_air: &Self::OnAir<'a>) -> Option<Frame<'a>> {
-        *on_air
+    fn tell_row<K: Kind>(on_air: &Option<Frame>, row: &mut [Tag<K>], replies: &mut Replies) {
+        let Some(frame) = on_air else { return };
+        match frame.listeners() {
+            Some(state) => {
+                for tag in row.iter_mut().filter(|tag| tag.link.state == state) {
+                    replies.add(tag.hear(frame));
+                }
+            }
+            None => {
+                for tag in row {
+                    replies.add(tag.hear(frame));
+                }
+            }
+        }
     }
 }
 

@@ -1,5 +1,7 @@
 //! The frames that a tag can hear.
 
+use crate::link::State;
+
 pub type Serial = [u8; 4];
 
 pub type Page = [u8; 8];
@@ -57,6 +59,18 @@ pub struct Command<'a> {
     pub head: u8,
     pub address: u8,
     pub data: &'a Page,
+}
+
+impl Frame<'_> {
+    /// The one state in which this frame is heard. A request is heard in several.
+    pub fn listeners(&self) -> Option<State> {
+        match self {
+            Frame::Request { .. } => None,
+            Frame::SlotMarker { slot } => Some(State::requested(*slot)),
+            Frame::Attrib { .. } | Frame::Halt { .. } => Some(State::DECLARED),
+            Frame::Command(command) => Some(State::active(command.cid())),
+        }
+    }
 }
 
 impl Command<'_> {

@@ -2,39 +2,33 @@
 
 use crate::ears::{Ears, check_bytes};
 
-#[derive(Clone, Copy, Default)]
+#[derive(Clone, Copy)]
 pub struct Message {
     bytes: [u8; 16],
     len: usize,
 }
 
 impl Message {
-    pub fn push(&mut self, byte: u8) {
-        self.bytes[self.len] = byte;
-        self.len += 1;
+    pub fn new(bytes: [u8; 16], len: usize) -> Message {
+        Message { bytes, len }
     }
 
-    pub fn extend(&mut self, bytes: &[u8]) {
-        self.bytes[self.len..][..bytes.len()].copy_from_slice(bytes);
-        self.len += bytes.len();
+    /// A body of up to 14 bytes, with its check bytes behind it.
+    pub fn sealed<E: Ears, const N: usize>(body: [u8; N]) -> Message {
+        let mut bytes = [0; 16];
+        bytes[..N].copy_from_slice(&body);
+        Message::new(bytes, N).seal::<E>()
     }
 
-    /// The same with its check bytes behind it.
-    pub fn sealed<E: Ears>(mut self) -> Message {
+    /// The same of a body that is a message already.
+    pub fn seal<E: Ears>(mut self) -> Message {
         let check = check_bytes::<E>(self.as_slice());
-        self.extend(&check);
+        self.bytes[self.len..][..2].copy_from_slice(&check);
+        self.len += 2;
         self
     }
 
     pub fn as_slice(&self) -> &[u8] {
         &self.bytes[..self.len]
-    }
-}
-
-impl From<&[u8]> for Message {
-    fn from(bytes: &[u8]) -> Message {
-        let mut message = Message::default();
-        message.extend(bytes);
-        message
     }
 }

@@ -1,9 +1,8 @@
 //! The pump tag: 32 pages, lock bits, a password and a counter.
 
 use crate::frames::{Command, Op, Page};
-use crate::link::{Link, State};
 use crate::refusal::Refusal;
-use crate::tags::{Nack, Reply, Tag};
+use crate::tags::{Done, Kind, Nack};
 
 const LOCK_PAGE: usize = 0;
 const COUNT_PAGE: usize = 2;
@@ -11,22 +10,13 @@ const PASSWORD_PAGE: usize = 3;
 
 const LAST_COUNT: u16 = 0x8000;
 
-#[derive(Clone)]
+#[derive(Default)]
 pub struct Pump {
-    link: Link,
     open: bool,
     pages: [Page; 32],
 }
 
 impl Pump {
-    pub fn new(draw: u16) -> Pump {
-        Pump {
-            link: Link::new(draw),
-            open: false,
-            pages: [[0; 8]; 32],
-        }
-    }
-
     /// Sets a page of a tag that is not in use yet.
     pub fn set_page(&mut self, n: usize, page: Page) -> Result<(), Refusal> {
         *self.pages.get_mut(n).ok_or(Refusal::NoSuchPage)? = page;
@@ -48,19 +38,16 @@ impl Pump {
         u16::from_le_bytes([low, high])
     }
 
-    fn read(&self, page: usize) -> Result<Page, Nack> {
+    fn read(&self, page: usize) -> Result<Done, Nack> {
         match page {
             PASSWORD_PAGE => Err(Nack::Invalid),
-            0..PASSWORD_PAGE => Ok(self.pages[page]),
-            _ if self.open => Ok(self.pages[page]),
-            _ => Err(Nack::NotOpen),
+            _ if page > PASSWORD_PAGE && !self.open => Err(Nack::NotOpen),
+            _ => Ok(Done::Read(self.pages[page])),
         }
     }
 
-    fn write(&mut self, page: usize, data: &Page) -> Result<(), Nack> {
-        if !self.open {
-            return Err(Nack::NotOpen);
-        }
+    fn write(&mut self, page: usize, data: &Page) -> Result<Done, Nack> {
+        self.check_open()?;
         if page == LOCK_PAGE || page == COUNT_PAGE {
             return Err(Nack::Invalid);
         }
@@ -68,36 +55,29 @@ impl Pump {
             return Err(Nack::Locked);
         }
         self.pages[page] = *data;
-        Ok(())
+        Ok(Done::Acknowledged)
     }
 
     /// Sets lock bits, except that of the lock bits' own page.
-    fn lock(&mut self, data: &Page) -> Result<(), Nack> {
-        if !self.open {
-            return Err(Nack::NotOpen);
-        }
+    fn lock(&mut self, data: &Page) -> Result<Done, Nack> {
+        self.check_open()?;
         let page = &mut self.pages[LOCK_PAGE];
         page[4] |= data[4] & !1;
         for i in 5..8 {
             page[i] |= data[i];
         }
-        Ok(())
+        Ok(Done::Acknowledged)
     }
 
     /// All ones open nothing; a check that fails closes the tag.
-    fn check_password(&mut self, data: &Page) -> Result<(), Nack> {
+    fn check_password(&mut self, data: &Page) -> Result<Done, Nack> {
         self.open = *data != [0xFF; 8] && *data == self.pages[PASSWORD_PAGE];
-        if self.open {
-            Ok(())
-        } else {
-            Err(Nack::NotOpen)
-        }
+        self.check_open()?;
+        Ok(Done::Acknowledged)
     }
 
-    fn count(&mut self, data: &Page) -> Result<(), Nack> {
-        if !self.open {
-            return Err(Nack::NotOpen);
-        }
+    fn count(&mut self, data: &Page) -> Result<Done, Nack> {
+        self.check_open()?;
         if self.is_locked(COUNT_PAGE) {
             return Err(Nack::Locked);
         }
@@ -108,45 +88,36 @@ impl Pump {
         let (signature, count) = self.pages[COUNT_PAGE].split_at_mut(6);
         signature.copy_from_slice(&data[..6]);
         count.copy_from_slice(&(counter + 1).to_le_bytes());
-        Ok(())
+        Ok(Done::Acknowledged)
+    }
+
+    fn check_open(&self) -> Result<(), Nack> {
+        if self.open {
+            Ok(())
+        } else {
+            Err(Nack::NotOpen)
+        }
     }
 }
 
-impl Tag for Pump {
-    fn link(&mut self) -> &mut Link {
-        &mut self.link
-    }
-
+impl Kind for Pump {
     fn pages(&self) -> &[Page] {
         &self.pages
     }
 
-    fn obey(&mut self, command: &Command) -> Option<Reply> {
+    fn obey(&mut self, command: &Command) -> Option<Result<Done, Nack>> {
         let page = usize::from(command.page());
-        let done = match command.op {
-            Op::Read => {
-                return Some(match self.read(page) {
-                    Ok(page) => Reply::Page(page),
-                    Err(nack) => Reply::Refused(nack),
-                });
-            }
+        Some(match command.op {
+            Op::Read => self.read(page),
             Op::Write => self.write(page, command.data),
             Op::Lock => self.lock(command.data),
             Op::CheckPassword => self.check_password(command.data),
-            Op::Deselect => {
-                self.link.state = State::Halted;
-                Ok(())
-            }
             Op::Count => self.count(command.data),
-        };
-        Some(match done {
-            Ok(()) => Reply::Acknowledged,
-            Err(nack) => Reply::Refused(nack),
+            Op::Deselect => return None,
         })
     }
 
     fn lose_power(&mut self) {
-        self.link.lose_power();
         self.open = false;
     }
 }

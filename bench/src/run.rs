@@ -2,19 +2,20 @@
 
 use crate::ears::Ears;
 use crate::refusal::{Refusal, Stop};
-use crate::sheet::{Call, Line, cut_line, read_line};
+use crate::replies::Sound;
+use crate::sheet::{Call, Fields, Line};
 use crate::stock::Stock;
-use crate::tray::{Sound, Tray};
-use std::fmt::{self, Display, Write};
+use crate::text::Text;
+use crate::tray::Tray;
 
 const SHEET_MOST: usize = 65536;
 
 /// Runs a sheet. Answers all that it prints, and why it stopped before its end, if it did.
-pub fn run_sheet<E: Ears>(sheet: &[u8]) -> (String, Option<Stop>) {
+pub fn run_sheet<E: Ears>(sheet: &[u8]) -> (Text, Option<Stop>) {
     let mut run = Run::default();
     let stop = run.lines::<E>(sheet).err();
     if let Some(Stop { line, why }) = stop {
-        run.print(line, format_args!("refused,{}", why as u8));
+        run.text.numbers(line, b"refused", &[why as usize]);
     }
     (run.text, stop)
 }
@@ -24,7 +25,7 @@ struct Run {
     tray: Tray,
     /// A call was made, so that no more tags may be named.
     calling: bool,
-    text: String,
+    text: Text,
 }
 
 impl Run {
@@ -52,8 +53,8 @@ impl Run {
         number: usize,
         text: &'a [u8],
     ) -> Result<&'a [u8], Refusal> {
-        let (line, rest) = cut_line(text)?;
-        match read_line::<E>(line)? {
+        let (line, rest) = Fields::cut_line(text)?;
+        match line.read::<E>()? {
             Line::Call(call) => {
                 self.calling = true;
                 self.tray.check_rows()?;
@@ -84,46 +85,23 @@ impl Run {
                 return Ok(());
             }
         }
-        self.print(number, "ok");
+        self.text.numbers(number, b"ok", &[]);
         Ok(())
     }
 
     fn print_sound(&mut self, number: usize, sound: Sound) {
         match sound {
-            Sound::Silence => self.print(number, "none"),
-            Sound::Reply(reply) => {
-                self.print(number, format_args!("reply,{}", Hex(reply.as_slice())));
-            }
-            Sound::Clash(count) => self.print(number, format_args!("clash,{count}")),
+            Sound::Silence => self.text.numbers(number, b"none", &[]),
+            Sound::Reply(reply) => self.text.bytes(number, b"reply", reply.as_slice()),
+            Sound::Clash(count) => self.text.numbers(number, b"clash", &[count]),
         }
     }
 
     fn print_stock(&mut self, number: usize, stock: &Stock) {
-        let Stock {
-            frames,
-            rounds,
-            clashes,
-            serials,
-        } = stock;
-        self.print(number, format_args!("stock,{frames},{rounds},{clashes}"));
-        for serial in serials {
-            self.print(number, format_args!("serial,{}", Hex(serial)));
+        let figures = [stock.frames, stock.rounds, stock.clashes];
+        self.text.numbers(number, b"stock", &figures);
+        for serial in &stock.serials {
+            self.text.bytes(number, b"serial", serial);
         }
-    }
-
-    fn print(&mut self, number: usize, what: impl Display) {
-        writeln!(self.text, "{number},{what}").expect("a string takes all text");
-    }
-}
-
-/// Bytes that are shown as lower-case hex pairs.
-struct Hex<'a>(&'a [u8]);
-
-impl Display for Hex<'_> {
-    fn fmt(&self, f: &mut fmt::Formatter) -> fmt::Result {
-        for byte in self.0 {
-            write!(f, "{byte:02x}")?;
-        }
-        Ok(())
     }
 }

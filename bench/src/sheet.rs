@@ -4,8 +4,6 @@ use crate::ears::Ears;
 use crate::frames::Page;
 use crate::message::Message;
 use crate::refusal::Refusal;
-use std::array;
-use std::ops::RangeInclusive;
 
 const LINE_MOST: usize = 79;
 
@@ -33,43 +31,68 @@ pub enum Call {
     Stock,
 }
 
-/// Cuts the first line off, up to an LF among the first 80 bytes.
-pub fn cut_line(text: &[u8]) -> Result<(&[u8], &[u8]), Refusal> {
-    let reach = &text[..text.len().min(LINE_MOST + 1)];
-    match reach.iter().position(|&byte| byte == b'\n') {
-        Some(end) => Ok((&text[..end], &text[end + 1..])),
-        None => Err(Refusal::LineTooLong),
-    }
+/// A line parted at its commas.
+pub struct Fields<'a> {
+    /// Its first five fields; no line has more than four.
+    fields: [&'a [u8]; 5],
+    count: usize,
 }
 
-/// What a line says: a known word, then as many fields as it has, each in its form.
-pub fn read_line<E: Ears>(line: &[u8]) -> Result<Line, Refusal> {
-    let mut fields = line.split(|&byte| byte == b',');
-    let word = fields.next().unwrap_or_default();
-    let rest: [Option<&[u8]>; 4] = array::from_fn(|_| fields.next());
-    let call = match (word, rest) {
-        (b"tag", [Some(kind), Some(draw), None, _]) => return read_tag(kind, draw),
-        (b"page", [Some(tag), Some(page), Some(bytes), None]) => {
-            return Ok(Line::Page {
-                tag: number(tag)?,
-                page: number(page)?,
-                bytes: page_bytes(bytes)?,
-            });
+impl<'a> Fields<'a> {
+    /// Cuts the first line off, up to an LF among the first 80 bytes, and parts its fields on the way.
+    pub fn cut_line(text: &'a [u8]) -> Result<(Fields<'a>, &'a [u8]), Refusal> {
+        let mut line = Fields {
+            fields: [&[]; 5],
+            count: 0,
+        };
+        let mut start = 0;
+        let reach = &text[..text.len().min(LINE_MOST + 1)];
+        for (at, &byte) in reach.iter().enumerate() {
+            // digits and letters stand above both
+            if byte <= b',' && (byte == b',' || byte == b'\n') {
+                if let Some(field) = line.fields.get_mut(line.count) {
+                    *field = &text[start..at];
+                    line.count += 1;
+                }
+                start = at + 1;
+                if byte == b'\n' {
+                    return Ok((line, &text[start..]));
+                }
+            }
         }
-        (b"on", [None, ..]) => Call::On,
-        (b"off", [None, ..]) => Call::Off,
-        (b"stock", [None, ..]) => Call::Stock,
-        (b"place", [Some(tag), None, ..]) => Call::Place(number(tag)?),
-        (b"lift", [Some(tag), None, ..]) => Call::Lift(number(tag)?),
-        (b"send", [Some(body), None, ..]) => Call::Frame(bytes(body, 1..=14)?.sealed::<E>()),
-        (b"raw", [Some(frame), None, ..]) => Call::Frame(bytes(frame, 1..=16)?),
-        (
-            b"tag" | b"page" | b"on" | b"off" | b"stock" | b"place" | b"lift" | b"send" | b"raw",
-            _,
-        ) => return Err(Refusal::FieldCount),
-        _ => return Err(Refusal::UnknownWord),
-    };
-    Ok(Line::Call(call))
+        Err(Refusal::LineTooLong)
+    }
+
+    /// What a line says: a known word, then as many fields as it has, each in its form.
+    pub fn read<E: Ears>(&self) -> Result<Line, Refusal> {
+        let call = match self.fields[..self.count] {
+            [b"send", body] => Call::Frame(sealed_bytes::<E>(body)?),
+            [b"raw", frame] => {
+                let (bytes, len) = bytes(frame)?;
+                Call::Frame(Message::new(bytes, len))
+            }
+            [b"on"] => Call::On,
+            [b"off"] => Call::Off,
+            [b"stock"] => Call::Stock,
+            [b"place", tag] => Call::Place(number(tag)?),
+            [b"lift", tag] => Call::Lift(number(tag)?),
+            [b"tag", kind, draw] => return read_tag(kind, draw),
+            [b"page", tag, page, bytes] => {
+                return Ok(Line::Page {
+                    tag: number(tag)?,
+                    page: number(page)?,
+                    bytes: page_bytes(bytes)?,
+                });
+            }
+            [
+                b"tag" | b"page" | b"on" | b"off" | b"stock" | b"place" | b"lift" | b"send"
+                | b"raw",
+                ..,
+            ] => return Err(Refusal::FieldCount),
+            _ => return Err(Refusal::UnknownWord),
+        };
+        Ok(Line::Call(call))
+    }
 }
 
 fn read_tag(kind: &[u8], draw: &[u8]) -> Result<Line, Refusal> {
@@ -86,50 +109,70 @@ fn read_tag(kind: &[u8], draw: &[u8]) -> Result<Line, Refusal> {
 
 /// One to three decimal digits without leading zeros.
 fn number(field: &[u8]) -> Result<usize, Refusal> {
-    match field {
-        [b'0'] | [b'1'..=b'9'] | [b'1'..=b'9', _] | [b'1'..=b'9', _, _] => {
-            field.iter().try_fold(0, |value, &digit| match digit {
-                b'0'..=b'9' => Ok(10 * value + usize::from(digit - b'0')),
-                _ => Err(Refusal::FieldForm),
-            })
-        }
+    let digit = |byte: u8| match byte {
+        b'0'..=b'9' => Ok(usize::from(byte - b'0')),
+        _ => Err(Refusal::FieldForm),
+    };
+    match *field {
+        [a] => digit(a),
+        [b'1'..=b'9', ..] if field.len() <= 3 => field
+            .iter()
+            .try_fold(0, |value, &byte| Ok(10 * value + digit(byte)?)),
         _ => Err(Refusal::FieldForm),
     }
 }
 
-/// Lower-case hex pairs, so many of them.
-fn bytes(field: &[u8], count: RangeInclusive<usize>) -> Result<Message, Refusal> {
+/// The value of a lower-case hex digit, NO_DIGIT for any other byte.
+static DIGITS: [u8; 256] = {
+    let mut digits = [NO_DIGIT; 256];
+    let mut value = 0;
+    while value < 16 {
+        digits[b"0123456789abcdef"[value] as usize] = value as u8;
+        value += 1;
+    }
+    digits
+};
+
+const NO_DIGIT: u8 = 0x10;
+
+/// One to 16 bytes as lower-case hex pairs, and how many they are.
+fn bytes(field: &[u8]) -> Result<([u8; 16], usize), Refusal> {
     let (pairs, rest) = field.as_chunks();
-    if !rest.is_empty() || !count.contains(&pairs.len()) {
+    if !rest.is_empty() || !(1..=16).contains(&pairs.len()) {
         return Err(Refusal::FieldForm);
     }
-    let mut message = Message::default();
-    for &[high, low] in pairs {
-        message.push(hex_digit(high)? << 4 | hex_digit(low)?);
+    let mut bytes = [0; 16];
+    let mut seen = 0;
+    for (byte, &[high, low]) in bytes.iter_mut().zip(pairs) {
+        let (high, low) = (DIGITS[usize::from(high)], DIGITS[usize::from(low)]);
+        seen |= high | low;
+        *byte = high << 4 | low;
     }
-    Ok(message)
+    if seen >= NO_DIGIT {
+        return Err(Refusal::FieldForm);
+    }
+    Ok((bytes, pairs.len()))
+}
+
+/// One to 14 bytes, and check bytes behind them.
+fn sealed_bytes<E: Ears>(field: &[u8]) -> Result<Message, Refusal> {
+    match bytes(field)? {
+        (bytes, len @ ..=14) => Ok(Message::new(bytes, len).seal::<E>()),
+        _ => Err(Refusal::FieldForm),
+    }
 }
 
 fn page_bytes(field: &[u8]) -> Result<Page, Refusal> {
-    let message = bytes(field, 8..=8)?;
-    message
-        .as_slice()
-        .try_into()
-        .map_err(|_| Refusal::FieldForm)
+    match bytes(field)? {
+        ([page @ .., _, _, _, _, _, _, _, _], 8) => Ok(page),
+        _ => Err(Refusal::FieldForm),
+    }
 }
 
 /// Four hex digits, the high one first.
 fn draw_number(field: &[u8]) -> Result<u16, Refusal> {
-    match *bytes(field, 2..=2)?.as_slice() {
-        [high, low] => Ok(u16::from_be_bytes([high, low])),
-        _ => Err(Refusal::FieldForm),
-    }
-}
-
-fn hex_digit(digit: u8) -> Result<u8, Refusal> {
-    match digit {
-        b'0'..=b'9' => Ok(digit - b'0'),
-        b'a'..=b'f' => Ok(digit - b'a' + 10),
+    match bytes(field)? {
+        ([high, low, ..], 2) => Ok(u16::from_be_bytes([high, low])),
         _ => Err(Refusal::FieldForm),
     }
 }

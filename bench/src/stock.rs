@@ -3,7 +3,8 @@
 use crate::ears::{Ears, sound_body};
 use crate::frames::Serial;
 use crate::message::Message;
-use crate::tray::{Sound, Tray};
+use crate::replies::Sound;
+use crate::tray::Tray;
 
 const ROUNDS: usize = 8;
 
@@ -58,16 +59,15 @@ impl Stock {
 
 /// The request for sixteen slots belongs to the first of them, markers to the others.
 fn slot_frame<E: Ears>(slot: u8, wake_up: bool) -> Message {
-    let body: &[u8] = match (slot, wake_up) {
-        (1, true) => &[0x05, 0x00, 0x0C],
-        (1, false) => &[0x05, 0x00, 0x04],
-        _ => &[(slot - 1) << 4 | 5],
-    };
-    Message::from(body).sealed::<E>()
+    match (slot, wake_up) {
+        (1, true) => Message::sealed::<E, _>([0x05, 0x00, 0x0C]),
+        (1, false) => Message::sealed::<E, _>([0x05, 0x00, 0x04]),
+        _ => Message::sealed::<E, _>([(slot - 1) << 4 | 5]),
+    }
 }
 
 fn halt_frame<E: Ears>([s0, s1, s2, s3]: Serial) -> Message {
-    Message::from([0x50, s0, s1, s2, s3].as_slice()).sealed::<E>()
+    Message::sealed::<E, _>([0x50, s0, s1, s2, s3])
 }
 
 /// The serial number in a sound answer to a request.

@@ -1,16 +1,8 @@
-//! What a kind of tag is, and how tags hear and answer.
+//! A tag: the link that every kind has, over what its kind has for itself.
 
-use crate::ears::Ears;
-use crate::frames::{Command, Frame, Page};
-use crate::link::{Link, LinkReply, State};
-use crate::message::Message;
-
-/// What a tag says to a data command.
-pub enum Reply {
-    Page(Page),
-    Acknowledged,
-    Refused(Nack),
-}
+use crate::frames::{Command, Frame, Op, Page, Serial};
+use crate::link::{Link, State};
+use crate::replies::Said;
 
 /// Why a tag refuses a data command.
 #[derive(Clone, Copy)]
@@ -23,73 +15,122 @@ pub enum Nack {
     NotOpen = 0x41,
 }
 
-pub trait Tag {
-    fn link(&mut self) -> &mut Link;
+/// What a data command does where no kind refuses it.
+pub enum Done {
+    Read(Page),
+    Acknowledged,
+}
 
+/// What a kind of tag has beside its link.
+pub trait Kind {
     fn pages(&self) -> &[Page];
 
-    /// Obeys a data command with its card number.
-    fn obey(&mut self, command: &Command) -> Option<Reply>;
+    /// Obeys a data command other than DESELECT. Nothing where this kind does not hear it.
+    fn obey(&mut self, command: &Command) -> Option<Result<Done, Nack>>;
 
-    fn gain_power(&mut self) {
-        self.link().gain_power();
+    fn lose_power(&mut self) {}
+}
+
+pub struct Tag<K> {
+    pub link: Link,
+    placed: bool,
+    pub kind: K,
+}
+
+impl<K: Kind> Tag<K> {
+    pub fn new(draw: u16, kind: K) -> Tag<K> {
+        Tag {
+            link: Link::new(draw),
+            placed: true,
+            kind,
+        }
     }
 
-    fn lose_power(&mut self) {
-        self.link().lose_power();
+    /// The field goes on or off. A tag that is not on the tray is off in either.
+    pub fn set_field(&mut self, on: bool) {
+        if self.placed {
+            self.set_power(on);
+        }
     }
 
-    /// Hears what is on the air, and answers.
-    fn hear<E: Ears>(&mut self, on_air: &E::OnAir<'_>) -> Option<Message> {
-        match E::hear(on_air)? {
-            Frame::Command(command) => {
-                let link = self.link();
-                if link.state != State::Active || link.cid != command.cid() {
-                    return None;
-                }
-                let reply = self.obey(&command)?;
-                Some(command_reply(&command, reply).sealed::<E>())
+    pub fn set_placed(&mut self, placed: bool, field: bool) {
+        if field && placed != self.placed {
+            self.set_power(placed);
+        }
+        self.placed = placed;
+    }
+
+    fn set_power(&mut self, on: bool) {
+        if on {
+            self.link.gain_power();
+        } else {
+            self.link.lose_power();
+            self.kind.lose_power();
+        }
+    }
+
+    /// Hears a frame, and answers. A tag that is off hears nothing.
+    #[inline(always)]
+    pub fn hear(&mut self, frame: &Frame) -> Option<Said> {
+        match *frame {
+            Frame::Request {
+                family,
+                wake_up,
+                slots,
+            } => self
+                .link
+                .request(family, wake_up, slots)
+                .then(|| self.answer()),
+            Frame::SlotMarker { slot } if self.link.state == State::requested(slot) => {
+                self.link.state = State::DECLARED;
+                Some(self.answer())
             }
-            frame => {
-                let serial = first_half(&self.pages()[0]);
-                let reply = self.link().hear(&frame, serial)?;
-                Some(link_reply(self.pages(), reply).sealed::<E>())
+            Frame::Attrib { serial, cid } if self.is_declared(serial) => {
+                self.link.state = State::active(cid);
+                Some(Said::Byte(cid))
             }
+            Frame::Halt { serial } if self.is_declared(serial) => {
+                self.link.state = State::HALTED;
+                Some(Said::Byte(0x00))
+            }
+            Frame::Command(ref command) if self.link.state == State::active(command.cid()) => {
+                self.obey(command)
+            }
+            _ => None,
         }
     }
-}
 
-fn command_reply(command: &Command, reply: Reply) -> Message {
-    let mut message = Message::default();
-    message.push(command.head);
-    match reply {
-        Reply::Page(page) => {
-            message.push(command.page());
-            message.extend(&page);
-        }
-        Reply::Acknowledged => message.push(0x00),
-        Reply::Refused(nack) => message.push(nack as u8),
+    fn is_declared(&self, serial: Serial) -> bool {
+        self.link.state == State::DECLARED && self.kind.pages()[0][..4] == serial
     }
-    message
-}
 
-fn link_reply(pages: &[Page], reply: LinkReply) -> Message {
-    let mut message = Message::default();
-    match reply {
-        LinkReply::Answer => {
-            message.push(0x50);
-            message.extend(&first_half(&pages[0]));
-            message.extend(&first_half(&pages[1]));
-            message.extend(&[0x00, 0x00, 0x41]);
-        }
-        LinkReply::Card(cid) => message.push(cid),
-        LinkReply::Halted => message.push(0x00),
+    fn answer(&self) -> Said {
+        let pages = self.kind.pages();
+        let mut memory = [0; 8];
+        memory[..4].copy_from_slice(&pages[0][..4]);
+        memory[4..].copy_from_slice(&pages[1][..4]);
+        Said::Answer(memory)
     }
-    message
-}
 
-/// The serial number of page 0, or the application data of page 1.
-fn first_half(page: &Page) -> [u8; 4] {
-    let [a, b, c, d, ..] = *page;
-    [a, b, c, d]
+    fn obey(&mut self, command: &Command) -> Option<Said> {
+        let head = command.head;
+        let outcome = if command.op == Op::Deselect {
+            self.link.state = State::HALTED;
+            Ok(Done::Acknowledged)
+        } else {
+            self.kind.obey(command)?
+        };
+        Some(match outcome {
+            Ok(Done::Read(page)) => Said::Page {
+                head,
+                number: command.page(),
+                page,
+            },
+            Ok(Done::Acknowledged) => Said::Status { head, status: 0x00 },
+            Err(nack) => Said::Status {
+                head,
+                status: nack as u8,
+            },
+        })
+    }
 }

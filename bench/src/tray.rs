@@ -3,74 +3,37 @@
 use crate::ears::Ears;
 use crate::frames::Page;
 use crate::gauge::Gauge;
-use crate::message::Message;
 use crate::pump::Pump;
 use crate::refusal::Refusal;
-use crate::tags::Tag;
+use crate::replies::{Replies, Sound};
+use crate::tags::{Kind, Tag};
 
 /// The longest row; the back row's numbers start here.
 const ROW: usize = 32;
 
-struct Seat<T> {
-    tag: T,
-    placed: bool,
-}
-
-impl<T: Tag> Seat<T> {
-    fn new(tag: T) -> Seat<T> {
-        Seat { tag, placed: true }
-    }
-
-    fn set_placed(&mut self, placed: bool, field: bool) {
-        if field && placed && !self.placed {
-            self.tag.gain_power();
-        } else if field && !placed && self.placed {
-            self.tag.lose_power();
-        }
-        self.placed = placed;
-    }
-}
-
-/// What a reader hears after a frame.
-pub enum Sound {
-    Silence,
-    Reply(Message),
-    Clash(usize),
-}
-
-impl Sound {
-    fn add(&mut self, reply: Message) {
-        *self = match self {
-            Sound::Silence => Sound::Reply(reply),
-            Sound::Reply(_) => Sound::Clash(2),
-            Sound::Clash(count) => Sound::Clash(*count + 1),
-        };
-    }
-}
-
 #[derive(Default)]
 pub struct Tray {
-    front: Vec<Seat<Pump>>,
-    back: Vec<Seat<Gauge>>,
+    front: Vec<Tag<Pump>>,
+    back: Vec<Tag<Gauge>>,
     field: bool,
 }
 
 impl Tray {
     pub fn add_pump(&mut self, draw: u16) {
-        self.front.push(Seat::new(Pump::new(draw)));
+        self.front.push(Tag::new(draw, Pump::default()));
     }
 
     pub fn add_gauge(&mut self, draw: u16) {
-        self.back.push(Seat::new(Gauge::new(draw)));
+        self.back.push(Tag::new(draw, Gauge::default()));
     }
 
     pub fn set_page(&mut self, tag: usize, page: usize, bytes: Page) -> Result<(), Refusal> {
         if tag < ROW {
-            let seat = self.front.get_mut(tag).ok_or(Refusal::NoSuchPage)?;
-            seat.tag.set_page(page, bytes)
+            let tag = self.front.get_mut(tag).ok_or(Refusal::NoSuchPage)?;
+            tag.kind.set_page(page, bytes)
         } else {
-            let seat = self.back.get_mut(tag - ROW).ok_or(Refusal::NoSuchPage)?;
-            seat.tag.set_page(page, bytes)
+            let tag = self.back.get_mut(tag - ROW).ok_or(Refusal::NoSuchPage)?;
+            tag.kind.set_page(page, bytes)
         }
     }
 
@@ -85,48 +48,35 @@ impl Tray {
     pub fn set_field(&mut self, on: bool) {
         if on != self.field {
             self.field = on;
-            set_power(&mut self.front, on);
-            set_power(&mut self.back, on);
+            self.front.iter_mut().for_each(|tag| tag.set_field(on));
+            self.back.iter_mut().for_each(|tag| tag.set_field(on));
         }
     }
 
     pub fn set_placed(&mut self, tag: usize, placed: bool) -> Result<(), Refusal> {
-        if tag < ROW {
-            let seat = self.front.get_mut(tag).ok_or(Refusal::NoSuchTag)?;
-            seat.set_placed(placed, self.field);
-        } else {
-            let seat = self.back.get_mut(tag - ROW).ok_or(Refusal::NoSuchTag)?;
-            seat.set_placed(placed, self.field);
+        fn set<K: Kind>(
+            tag: Option<&mut Tag<K>>,
+            placed: bool,
+            field: bool,
+        ) -> Result<(), Refusal> {
+            tag.ok_or(Refusal::NoSuchTag)?.set_placed(placed, field);
+            Ok(())
         }
-        Ok(())
+        if tag < ROW {
+            set(self.front.get_mut(tag), placed, self.field)
+        } else {
+            set(self.back.get_mut(tag - ROW), placed, self.field)
+        }
     }
 
-    /// Every tag with power hears the frame.
+    /// Every tag with power hears the frame; the others are off and hear nothing.
     pub fn send<E: Ears>(&mut self, frame: &[u8]) -> Sound {
-        let mut sound = Sound::Silence;
+        let mut replies = Replies::default();
         if self.field {
             let on_air = E::put_on_air(frame);
-            hear_row::<E, Pump>(&mut self.front, &on_air, &mut sound);
-            hear_row::<E, Gauge>(&mut self.back, &on_air, &mut sound);
+            E::tell_row(&on_air, &mut self.front, &mut replies);
+            E::tell_row(&on_air, &mut self.back, &mut replies);
         }
-        sound
-    }
-}
-
-fn set_power<T: Tag>(row: &mut [Seat<T>], on: bool) {
-    for seat in row.iter_mut().filter(|seat| seat.placed) {
-        if on {
-            seat.tag.gain_power();
-        } else {
-            seat.tag.lose_power();
-        }
-    }
-}
-
-fn hear_row<E: Ears, T: Tag>(row: &mut [Seat<T>], on_air: &E::OnAir<'_>, sound: &mut Sound) {
-    for seat in row.iter_mut().filter(|seat| seat.placed) {
-        if let Some(reply) = seat.tag.hear::<E>(on_air) {
-            sound.add(reply);
-        }
+        replies.sound::<E>()
     }
 }

@@ -6,7 +6,7 @@ use Rattle.std.proofs.lemmas.Slice.{take-put_mid}
 use Rattle.std.proofs.lemmas.Bool.{le-leb}
 use Rattle.typeb.specs.CheckBytes.{sealed, SealedInto}
 use Rattle.typeb.proofs.Buffers.{length_sealed}
-use Rattle.tags.proofs.Lists.{listed}
+use Rattle.kinds.proofs.Lists.{listed}
 use Rattle.reader.specs.Commands.{Attrib, body_for}
 
 -- eight zeros with a part over them

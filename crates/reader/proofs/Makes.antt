@@ -6,7 +6,7 @@ use Rattle.std.proofs.lemmas.Bool.Decides.{nat_tests}
 use Rattle.typeb.specs.declared.frames.Op.TheVariants as op
 use Rattle.typeb.specs.Hears.{in_body}
 use Rattle.typeb.proofs.Sealed.{sealed_heard, marker_in_body, attrib_in_body, command_in_body}
-use Rattle.tags.proofs.Lists.{listed}
+use Rattle.kinds.proofs.Lists.{listed}
 use Rattle.reader.specs.Commands.{Asked, Request, SlotMarker, Attrib, Halt, Read, Write, Lock, CheckPassword, Deselect, Count}
 use Rattle.reader.specs.Commands.{is_slots, in_range, body_for, heard_as}
 use Rattle.reader.specs.Laws.{Sized, ReadsBack}

@@ -6,7 +6,7 @@ use Rattle.refusals.specs.Numbers.{outcome, asked}
 use Rattle.typeb.specs.CheckBytes.{sound, body_of}
 use Rattle.typeb.specs.declared.frames.Op.TheVariants as op
 use Rattle.typeb.specs.Hears.{head_of}
-use Rattle.tags.specs.Says.{Says, Answer, Card, Page, Acknowledged, Refused}
+use Rattle.kinds.specs.Says.{Says, Answer, Card, Page, Acknowledged, Refused}
 use Rattle.reader.specs.Commands.{Asked, Request, SlotMarker, Attrib, Halt, Read, Write, Lock, CheckPassword, Deselect, Count}
 use Rattle.reader.specs.declared.replies.Reply.{Reply}
 use Rattle.reader.specs.declared.replies.Reply.TheVariants as reply

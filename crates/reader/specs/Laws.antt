@@ -6,11 +6,7 @@ use Rattle.typeb.specs.declared.frames.Op.TheVariants as op
 use Rattle.typeb.specs.declared.frames.Slots.{Slots}
 use Rattle.typeb.specs.Hears as hears
 use Rattle.typeb.specs.Hears.{Heard, heard, slot_count}
-use Rattle.tags.specs.Says.{Says, Answer, Card, Page, Acknowledged, Refused, echo, reply_bytes}
-use Rattle.tags.specs.Reacts.{says_to}
-use Rattle.tags.specs.Common.{reacts_by}
-use Rattle.tags.specs.Pump.{PumpMeaning, PumpSized, pump_obeys, pump_acts}
-use Rattle.tags.specs.Gauge.{GaugeMeaning, GaugeSized, gauge_obeys, gauge_acts}
+use Rattle.kinds.specs.Says.{Says, Answer, Card, Page, Acknowledged, Refused, echo, reply_bytes}
 use Rattle.reader.specs.Commands.{Asked, Request, SlotMarker, Attrib, Halt, Read, Write, Lock, CheckPassword, Deselect, Count}
 use Rattle.reader.specs.Commands.{in_range, frame_for, heard_as, made_for, buffer_for}
 use Rattle.reader.specs.Judged.{judged}
@@ -130,9 +126,6 @@ pub data Answers : Asked → Says → Type 0 where
   count_refused : {cid code : ℕ} {signature : List ℕ} → code % 16 ≡ 1 → Answers (Count cid signature) (Refused code)
 
 pub record JudgesExactly : Type 0 where
-  -- Whatever a tag of either kind, in any state, answers to a command in range is judged to exactly what it said.
-  pub pump : (m : PumpMeaning) → PumpSized m → (a : Asked) → Sized a → in_range a ≡ true → (s : Says) → says_to (reacts_by pump_obeys) (frame_for a) m ≡ Some s → judged a (pump_acts.hears (frame_for a) m).reply ≡ Ok s
-  pub gauge : (m : GaugeMeaning) → GaugeSized m → (a : Asked) → Sized a → in_range a ≡ true → (s : Says) → says_to (reacts_by gauge_obeys) (frame_for a) m ≡ Some s → judged a (gauge_acts.hears (frame_for a) m).reply ≡ Ok s
   -- Whatever can be said in answer to a command in range is judged to exactly that.
   pub every : (a : Asked) (s : Says) → in_range a ≡ true → Answers a s → judged a (reply_bytes (heard_as a) (Some s)) ≡ Ok s
   -- Two things that can be said in answer to one command, and differ, have different bytes.

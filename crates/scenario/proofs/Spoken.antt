@@ -1,7 +1,7 @@
 -- A command made and said: what the tray's answer and the buffer show is what sounded.
 use Rattle.std.proofs.Common.{◌≡◌, ℕ, ◌+◌, ◌-◌, ◌≤◌, Bool, true, false, cond, List, [], ◌++◌, length, take, drop, Some, None, Ok, Err, Option, Result, refl, ap, ◌∙◌, arith}
 use Rattle.std.proofs.lemmas.List.{length-append, take_at}
-use Rattle.tags.specs.Kinds.{Behaviour}
+use Rattle.kinds.specs.Kinds.{Behaviour}
 use Rattle.refusals.specs.Numbers.{asked}
 use Rattle.reader.specs.Commands.{Asked}
 use Rattle.reader.specs.Judged.{judged}

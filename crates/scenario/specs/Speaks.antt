@@ -2,8 +2,8 @@
 use Rattle.std.specs.Prelude.{ℕ, cond, List, [], take, Some, None, Ok, Err, Option, Result}
 use Rattle.refusals.specs.declared.Refusal.{Refusal}
 use Rattle.refusals.specs.Numbers.{outcome}
-use Rattle.tags.specs.Kinds.{Behaviour}
-use Rattle.tags.specs.Says.{Says}
+use Rattle.kinds.specs.Kinds.{Behaviour}
+use Rattle.kinds.specs.Says.{Says}
 use Rattle.reader.specs.Commands.{Asked, in_range, frame_for}
 use Rattle.reader.specs.Judged.{judged, said_in}
 use Rattle.tray_core.specs.declared.calls.Answer as calls

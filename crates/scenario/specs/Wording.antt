@@ -4,7 +4,7 @@ use Rattle.refusals.specs.declared.Refusal.{Refusal}
 use Rattle.refusals.specs.declared.Refusal.TheVariants as refusal
 use Rattle.refusals.specs.Numbers.{number}
 use Rattle.hex_pairs.specs.Hex.{hex_text}
-use Rattle.tags.specs.Says.{Says, Answer, Card, Page, Acknowledged, Refused}
+use Rattle.kinds.specs.Says.{Says, Answer, Card, Page, Acknowledged, Refused}
 use Rattle.reader.specs.Commands.{Asked, Request, SlotMarker, Attrib, Halt, Read, Write, Lock, CheckPassword, Deselect, Count}
 use Rattle.tray_core.specs.declared.calls.Answer as calls
 use Rattle.tray_core.specs.declared.calls.Answer.TheVariants as answer

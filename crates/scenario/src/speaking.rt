@@ -11,7 +11,7 @@ use reader::judging::judge;
 use reader::making::make;
 use reader::replies::Reply;
 use refusals::Refusal;
-use tags::kind::Kind;
+use kinds::kind::Kind;
 use tray_core::calls::{Answer, Call};
 use tray_core::tray::Tray;
 use typeb::frames::Serial;

@@ -4,8 +4,9 @@ use Rattle.tags.specs.Gauge.{GaugeMeaning, gauge_means}
 use Rattle.tags.specs.Making.{new_pump, pump_made, new_gauge, gauge_made}
 use Rattle.tags.specs.Pages.{put_page}
 use Rattle.tags.specs.Pump.{PumpMeaning, pump_means}
-use Rattle.tags.specs.declared.gauge.GaugeTag.{GaugeTag}
-use Rattle.tags.specs.declared.pump.PumpTag.{PumpTag}
+use Rattle.tags.specs.declared.gauge.GaugePages.{GaugePages}
+use Rattle.tags.specs.declared.linked.Linked.{Linked}
+use Rattle.tags.specs.declared.pump.PumpPages.{PumpPages}
 use Rattle.sheet.specs.declared.drafts.Draft as coded
 use Rattle.sheet.specs.declared.faults.LineFault.{LineFault}
 use Rattle.sheet.specs.Faults.{fault_number}
@@ -75,10 +76,10 @@ module _ {T M : Type 0} {N : ℕ} (means : T → M) where
 abbrev pub tag_of : {T : Type 0} {N : ℕ} → coded.Draft T N → T
 tag_of d = d.tag
 
-abbrev pub pump_draft : coded.Draft PumpTag 256 → Draft PumpMeaning
+abbrev pub pump_draft : coded.Draft (Linked PumpPages) 256 → Draft PumpMeaning
 pump_draft d = draft_of pump_means d
 
-abbrev pub gauge_draft : coded.Draft GaugeTag 16 → Draft GaugeMeaning
+abbrev pub gauge_draft : coded.Draft (Linked GaugePages) 16 → Draft GaugeMeaning
 gauge_draft d = draft_of gauge_means d
 
 -- What a change of a row answered and left.

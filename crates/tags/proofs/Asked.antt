@@ -2,9 +2,9 @@
 use Rattle.std.proofs.Common.{ℕ, Bool, true, false, ltb, List}
 use Rattle.tags.specs.Pages.{unlocked, locked_by, counter_in, counted_by}
 use Rattle.tags.specs.Pump.{PumpMeaning, asks, page_of, with_page, pump_reads, pump_writes, pump_locks, pump_counts}
-use Rattle.tags.specs.Reacts.{Reaction, replies}
+use Rattle.kinds.specs.Reacts.{Reaction, replies}
 use Rattle.tags.specs.Rules.{reading_of, writing_of, ever_read, read_now, by_write}
-use Rattle.tags.specs.Says.{Page, Acknowledged}
+use Rattle.kinds.specs.Says.{Page, Acknowledged}
 
 -- after a question the tag is as it was, or as what follows leaves it
 pub asks_either : (P : PumpMeaning → Type 0) (test : Bool) (code : ℕ) (m : PumpMeaning) (go : Reaction PumpMeaning) → P m → P go.after → P (asks test code m go).after

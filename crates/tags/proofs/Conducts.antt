@@ -18,9 +18,9 @@ use Rattle.tags.specs.Links.{LinkHears, link_hears, listens, hears_marker, is_de
 use Rattle.tags.specs.Links as links
 use Rattle.tags.specs.Pages.{serial_in, unlocked, locked_by, counter_in, counted_by}
 use Rattle.tags.specs.Pump.{PumpMeaning, pump_acts, pump_obeys, pump_reads, pump_writes, pump_checks, asks, passes, page_of, with_page}
-use Rattle.tags.specs.Reacts.{Reaction, answered, unmoved, replies, says_at}
+use Rattle.kinds.specs.Reacts.{Reaction, answered, unmoved, replies, says_at}
 use Rattle.tags.specs.Rules.{reading_of, writing_of, ever_read, read_now, by_write}
-use Rattle.tags.specs.Says.{Says, Page, Acknowledged, Refused}
+use Rattle.kinds.specs.Says.{Says, Page, Acknowledged, Refused}
 use Rattle.tags.specs.Tables.{StateTable, DrawTable, RefusalTable, MakingTable}
 use Rattle.tags.proofs.Asked.{after_read, after_write, after_lock, after_count}
 use Rattle.tags.proofs.Replaced.{replaced_here}

@@ -10,8 +10,8 @@ use Rattle.tags.specs.Gauge.{GaugeMeaning, gauge_acts, gauge_obeys}
 use Rattle.tags.specs.GaugeConduct.{GaugeConduct, GaugeKeeps, GaugesMade, gauge_new, told_gauge, gauge_replies}
 use Rattle.tags.specs.Links.{answers_to}
 use Rattle.tags.specs.Pages.{page_at}
-use Rattle.tags.specs.Reacts.{Reaction, answered, unmoved, replies}
-use Rattle.tags.specs.Says.{Says, Page, Refused}
+use Rattle.kinds.specs.Reacts.{Reaction, answered, unmoved, replies}
+use Rattle.kinds.specs.Says.{Says, Page, Refused}
 
 -- a gauge as it was, but for its link
 abbrev Keeps : GaugeMeaning → Reaction GaugeMeaning → Type 0

@@ -1,7 +1,7 @@
-pub mod Lists
 pub mod Memory
 pub mod Shown
 pub mod Spoken
+pub mod Judged
 pub mod Replaced
 pub mod Locks
 pub mod Moves

@@ -9,12 +9,12 @@ use Rattle.typeb.specs.Hears.{Heard, Request, SlotMarker, Attrib, Halt, Command,
 use Rattle.tags.specs.declared.link.State.{State}
 use Rattle.tags.specs.declared.link.State.TheVariants.{Off, Idle, Requested, Declared, Halted, Active}
 use Rattle.tags.specs.declared.link.Link.{Link}
-use Rattle.tags.specs.Kinds.{Meaning}
-use Rattle.tags.specs.Says.{Says, Answer, Card, Page, Acknowledged, Refused, protocol_info}
+use Rattle.kinds.specs.Kinds.{Meaning}
+use Rattle.kinds.specs.Says.{Says, Answer, Card, Page, Acknowledged, Refused, protocol_info}
 use Rattle.tags.specs.Links.{LinkHears, link_hears, hears_marker, listens, drawn, is_declared, answers_to}
 use Rattle.tags.specs.Pages.{page_at, serial_in, application_in, unlocked, counter_in}
 use Rattle.tags.specs.Common.{Shown, link_of, by_link, reacts_by}
-use Rattle.tags.specs.Reacts.{Reaction}
+use Rattle.kinds.specs.Reacts.{Reaction}
 use Rattle.tags.specs.Pump.{PumpMeaning, PumpSized, pump_obeys, page_of, passes}
 use Rattle.tags.specs.Rules.{reading_of, writing_of, ever_read, read_now, by_write}
 use Rattle.tags.proofs.Replaced.{page_long}

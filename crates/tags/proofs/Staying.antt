@@ -12,10 +12,10 @@ use Rattle.tags.specs.Common.{is_off_tag, reacts_by, with_opened}
 use Rattle.tags.specs.Links.{LinkHears, link_hears, hears_marker, listens, dismissed, requested, drawn, is_off, is_declared, answers_to}
 use Rattle.tags.specs.Pages.{serial_in, application_in}
 use Rattle.tags.specs.Pump.{PumpMeaning, pump_acts, pump_obeys, passes}
-use Rattle.tags.specs.Reacts.{Reaction, answered, unmoved, replies}
-use Rattle.tags.specs.Says.{Says, Answer, Acknowledged, Refused, protocol_info}
+use Rattle.kinds.specs.Reacts.{Reaction, answered, unmoved, replies}
+use Rattle.kinds.specs.Says.{Says, Answer, Acknowledged, Refused, protocol_info}
 use Rattle.tags.proofs.Asked.{after_read, after_write, after_lock, after_count}
-use Rattle.tags.specs.Twinned.{off_link, off_answers}
+use Rattle.tags.specs.OffLinks.{off_link, off_answers}
 
 abbrev OnIs : LinkHears → Type 0
 OnIs h = is_off h.after.state ≡ false

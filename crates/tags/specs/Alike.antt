@@ -4,12 +4,13 @@ use Rattle.std.proofs.Common.{ap}
 use Rattle.std.proofs.lemmas.Bool.{cond-false}
 use Rattle.typeb.specs.declared.frames.Op.{Op}
 use Rattle.typeb.specs.Hears.{Heard, Request, SlotMarker, Attrib, Halt, Command, heard}
-use Rattle.tags.specs.Kinds.{Meaning, Duties, Twins}
+use Rattle.kinds.specs.Kinds.{Meaning, Duties, Twins}
 use Rattle.tags.specs.Links.{answers_to, loses_link}
 use Rattle.tags.specs.Pages.{serial_in, application_in}
 use Rattle.tags.specs.Common.{Shown, is_off_tag, link_of, by_link, reacts_by, acts_by}
-use Rattle.tags.specs.Reacts.{Reaction, unmoved}
-use Rattle.tags.specs.Twinned.{closed, twins, of_twins, Same, hearing_by, silent_by, off_link, off_answers}
+use Rattle.kinds.specs.Reacts.{Reaction, unmoved}
+use Rattle.kinds.specs.Unwinding.{closed, twins, of_twins, Same, hearing_by, silent_by}
+use Rattle.tags.specs.OffLinks.{off_link, off_answers}
 
 module _ {H : Type 0} where
   -- one step leads closed tags with one shown part to reactions that nobody can tell apart, where it accepts no check

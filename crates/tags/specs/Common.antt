@@ -3,16 +3,25 @@ use Rattle.std.specs.Prelude.{ℕ, ◌%◌, Bool, false, cond, List}
 use Rattle.typeb.specs.declared.frames.Op.{Op}
 use Rattle.typeb.specs.Hears.{Heard, Request, SlotMarker, Attrib, Halt, Command}
 use Rattle.tags.specs.declared.link.Link.{Link}
-use Rattle.tags.specs.Kinds.{Meaning, Behaviour}
-use Rattle.tags.specs.Says.{Acknowledged}
+use Rattle.kinds.specs.Kinds.{Meaning, Behaviour}
+use Rattle.kinds.specs.Says.{Acknowledged}
 use Rattle.tags.specs.Links.{gains_link, loses_link, is_off, link_hears, LinkHears, answers_to, deselected}
 use Rattle.tags.specs.Pages.{serial_in, application_in}
-use Rattle.tags.specs.Reacts.{Reaction, unmoved, replies, hears_by}
+use Rattle.kinds.specs.Reacts.{Reaction, unmoved, replies, hears_by}
 
 -- What a tag shows: its state with the drawn slot, card number and draw number, and the pages that anyone may read.
 pub record Shown : Type 0 where
   pub link : Link
   pub pages : List ℕ
+
+-- What a tag holds beside its link: the pages that anyone may read, what it hides, and whether it is open.
+pub record Contents (H : Type 0) : Type 0 where
+  pub pages : List ℕ
+  pub hidden : H
+  pub opened : Bool
+
+abbrev pub tag_by : {H : Type 0} → Link → Contents H → Meaning Shown H
+tag_by link c = record { shown = record { link = link; pages = c.pages }; hidden = c.hidden; opened = c.opened }
 
 abbrev pub is_off_tag : Shown → Bool
 is_off_tag shown = is_off shown.link.state

@@ -2,20 +2,25 @@
 use Rattle.std.specs.Prelude.{◌≡◌, ℕ, false, cond, List, length, nat_lt}
 use Rattle.typeb.specs.declared.frames.Op.{Op}
 use Rattle.typeb.specs.declared.frames.Op.TheVariants.{Read, Write, Lock, CheckPassword, Deselect, Count}
-use Rattle.tags.specs.declared.gauge.GaugeTag.{GaugeTag}
-use Rattle.tags.specs.Kinds.{Meaning, Behaviour}
-use Rattle.tags.specs.Says.{Page, Refused}
-use Rattle.tags.specs.Common.{Shown, deselects, acts_by}
+use Rattle.tags.specs.declared.gauge.GaugePages.{GaugePages}
+use Rattle.tags.specs.declared.linked.Linked.{Linked}
+use Rattle.kinds.specs.Kinds.{Meaning, Behaviour}
+use Rattle.kinds.specs.Says.{Page, Refused}
+use Rattle.tags.specs.Common.{Shown, Contents, deselects, acts_by}
+use Rattle.tags.specs.Holding.{tag_of}
 use Rattle.tags.specs.Pages.{page_at}
-use Rattle.tags.specs.Reacts.{Reaction, unmoved, replies}
+use Rattle.kinds.specs.Reacts.{Reaction, unmoved, replies}
 
 -- A gauge shows both of its pages and hides nothing.
 abbrev pub GaugeMeaning : Type 0
 GaugeMeaning = Meaning Shown (Unit {0})
 
 -- It is never open.
-abbrev pub gauge_means : GaugeTag → GaugeMeaning
-gauge_means tag = record { shown = record { link = tag.link; pages = tag.memory }; hidden = tt; opened = false }
+abbrev pub gauge_holds : GaugePages → Contents (Unit {0})
+gauge_holds p = record { pages = p.memory; hidden = tt; opened = false }
+
+abbrev pub gauge_means : Linked GaugePages → GaugeMeaning
+gauge_means tag = tag_of gauge_holds tag
 
 -- A gauge has 16 bytes in its two pages.
 abbrev pub GaugeSized : GaugeMeaning → Type 0

@@ -4,12 +4,12 @@ use Rattle.std.proofs.Common.{⊎_elim, sym, ◌∙◌}
 use Rattle.std.proofs.lemmas.Bool.{cases_Bool, false≢true}
 use Rattle.typeb.specs.declared.frames.Op.{Op}
 use Rattle.typeb.specs.declared.frames.Op.TheVariants.{Read, Write, Lock, CheckPassword, Deselect, Count}
-use Rattle.tags.specs.Kinds.{Duties}
+use Rattle.kinds.specs.Kinds.{Duties}
 use Rattle.tags.specs.Common.{is_off_tag}
-use Rattle.tags.specs.Reacts.{Reaction}
+use Rattle.kinds.specs.Reacts.{Reaction}
 use Rattle.tags.specs.Pump.{PumpMeaning, pump_acts, pump_obeys, pump_reads, pump_checks, passes}
 use Rattle.tags.specs.Gauge.{gauge_acts, gauge_obeys, gauge_reads}
-use Rattle.tags.specs.Twinned.{closed, twins}
+use Rattle.kinds.specs.Unwinding.{closed, twins}
 use Rattle.tags.specs.Alike.{Blind, duties_by}
 
 -- a test that chooses between accepting and not accepting has failed where nothing was accepted

@@ -1,10 +1,9 @@
-pub mod Kinds
-pub mod Says
 pub mod Links
-pub mod Reacts
 pub mod Pages
 pub mod Common
 pub mod Rules
+pub mod Orders
+pub mod Holding
 pub mod Pump
 pub mod Gauge
 pub mod Making
@@ -12,6 +11,7 @@ pub mod Edges
 pub mod Tables
 pub mod Conduct
 pub mod GaugeConduct
+pub mod Judging
 pub mod Guarded
-pub mod Twinned
+pub mod OffLinks
 pub mod Alike

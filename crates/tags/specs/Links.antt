@@ -1,12 +1,13 @@
 -- What every kind does alike: states, the draw of a slot, requests, slot markers, ATTRIB and HLTB.
 use Rattle.std.specs.Prelude.{ℕ, ◌+◌, ◌*◌, ◌/◌, ◌%◌, Bool, true, false, cond, ◌&&◌, List, Some, None, Option, ◌==◌, nat_le, slice_index}
 use Rattle.std.specs.Str.{bytes_eq}
+use Rattle.typeb.specs.declared.frames.Op.{Op}
 use Rattle.typeb.specs.declared.frames.Slots.{Slots}
 use Rattle.typeb.specs.Hears.{Heard, Request, SlotMarker, Attrib, Halt, Command, slot_count}
 use Rattle.tags.specs.declared.link.State.{State}
 use Rattle.tags.specs.declared.link.State.TheVariants.{Off, Idle, Requested, Declared, Halted, Active}
 use Rattle.tags.specs.declared.link.Link.{Link}
-use Rattle.tags.specs.Says.{Says, Answer, Card, Acknowledged, protocol_info}
+use Rattle.kinds.specs.Says.{Says, Answer, Card, Acknowledged, protocol_info}
 
 -- A tag just made is off; its card number is 0.
 abbrev pub new_link : ℕ → Link
@@ -141,6 +142,21 @@ is_active Active = true
 
 abbrev pub answers_to : ℕ → Link → Bool
 answers_to cid link = is_active link.state && cid == link.cid
+
+-- A data command that a tag is to obey: which one, with its address byte and its eight data bytes.
+pub record Order : Type 0 where
+  pub op : Op
+  pub address : ℕ
+  pub bytes : List ℕ
+
+-- Of all frames it obeys those alone.
+abbrev pub obeyed : Heard → Link → Option Order
+obeyed (Request family wake_up slots) link = None
+obeyed (SlotMarker slot) link = None
+obeyed (Attrib serial params inf) link = None
+obeyed (Halt serial) link = None
+obeyed (Command op cid address bytes) link =
+    cond (answers_to cid link) (Some (record { op = op; address = address; bytes = bytes })) None
 
 -- DESELECT halts the tag.
 abbrev pub deselected : Link → Link

@@ -1,5 +1,5 @@
 -- Making a tag from an image: the questions in their order, each with its refusal's number, and the tag just made.
-use Rattle.std.specs.Prelude.{ℕ, false, List, length, take, drop, replicate, Ok, Err, Result, ◌==◌, nat_le}
+use Rattle.std.specs.Prelude.{◌≡◌, ℕ, false, List, length, take, drop, replicate, Ok, Err, Result, ◌==◌, nat_le}
 use Rattle.std.specs.Str.{bytes_eq}
 use Rattle.refusals.specs.Numbers.{asked}
 use Rattle.tags.specs.Links.{new_link}
@@ -19,6 +19,12 @@ pump_made image draw =
     (asked (unlocked 0 (page_at 0 image)) 2
     (asked (nat_le (counter_in (page_at 2 image)) 0x8000) 3
     (Ok (new_pump image draw))))
+
+-- A pump tag just made, from some image and draw number.
+pub record JustMade (m : PumpMeaning) : Type 0 where
+  pub image : List ℕ
+  pub draw : ℕ
+  pub from : pump_made image draw ≡ Ok m
 
 -- A gauge: 16 bytes? Bytes 4 to 7 zero?
 abbrev pub new_gauge : List ℕ → ℕ → GaugeMeaning

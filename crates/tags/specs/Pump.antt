@@ -3,11 +3,13 @@ use Rattle.std.specs.Prelude.{◌≡◌, ℕ, ◌-◌, Bool, true, false, cond, 
 use Rattle.std.specs.Str.{bytes_eq}
 use Rattle.typeb.specs.declared.frames.Op.{Op}
 use Rattle.typeb.specs.declared.frames.Op.TheVariants.{Read, Write, Lock, CheckPassword, Deselect, Count}
-use Rattle.tags.specs.declared.pump.PumpTag.{PumpTag}
-use Rattle.tags.specs.Kinds.{Meaning, Behaviour}
-use Rattle.tags.specs.Says.{Page, Acknowledged, Refused}
-use Rattle.tags.specs.Common.{Shown, with_opened, deselects, acts_by}
-use Rattle.tags.specs.Reacts.{Reaction, replies}
+use Rattle.tags.specs.declared.linked.Linked.{Linked}
+use Rattle.tags.specs.declared.pump.PumpPages.{PumpPages}
+use Rattle.kinds.specs.Kinds.{Meaning, Behaviour}
+use Rattle.kinds.specs.Says.{Page, Acknowledged, Refused}
+use Rattle.tags.specs.Common.{Shown, Contents, with_opened, deselects, acts_by}
+use Rattle.tags.specs.Holding.{tag_of}
+use Rattle.kinds.specs.Reacts.{Reaction, replies}
 use Rattle.tags.specs.Pages.{page_at, put_page, unlocked, locked_by, counter_in, counted_by}
 use Rattle.tags.specs.Rules.{reading_of, writing_of, ever_read, read_now, by_write}
 
@@ -16,13 +18,11 @@ abbrev pub PumpMeaning : Type 0
 PumpMeaning = Meaning Shown (List ℕ)
 
 -- What a value of the code stands for: of its 256 bytes the first 24 are shown.
-abbrev pub pump_means : PumpTag → PumpMeaning
-pump_means tag =
-    record {
-      shown = record { link = tag.link; pages = take 24 tag.memory };
-      hidden = drop 24 tag.memory;
-      opened = tag.opened;
-    }
+abbrev pub pump_holds : PumpPages → Contents (List ℕ)
+pump_holds p = record { pages = take 24 p.memory; hidden = drop 24 p.memory; opened = p.opened }
+
+abbrev pub pump_means : Linked PumpPages → PumpMeaning
+pump_means tag = tag_of pump_holds tag
 
 -- A pump tag has 24 bytes in pages 0 to 2 and 232 in pages 3 to 31.
 pub record PumpSized (m : PumpMeaning) : Type 0 where

@@ -11,7 +11,7 @@ use Rattle.tags.specs.Edges.{tag_in}
 use Rattle.tags.specs.Links.{LinkHears, gains_link, loses_link, link_hears, drawn}
 use Rattle.tags.specs.Making.{pump_made}
 use Rattle.tags.specs.Pump.{PumpMeaning, pump_reads, pump_writes, pump_locks, pump_counts}
-use Rattle.tags.specs.Says.{Says, Answer, Card, Page, Acknowledged, Refused}
+use Rattle.kinds.specs.Says.{Says, Answer, Card, Page, Acknowledged, Refused}
 
 -- A tag of serial number 11223344, with card number 7, and a draw number that begins with E.
 abbrev pub link_in : State → Link

@@ -2,10 +2,10 @@
 ghost use Rattle.std.specs.Prelude.{◌≡◌, length};
 ghost use Rattle.tags.specs.Edges.{edges, EdgesHold};
 
-// How many edge cases there are; the definitions agree with all of them.
+// How many rows of edge cases there are; the definitions agree with all of them.
 pub fn edge_cases() -> usize
     ensures rows { result ≡ length edges }
     ensures hold { EdgesHold }
 {
-    12
+    14
 }

@@ -1,35 +1,39 @@
 // The gauge tag: the states of the pump tag, two pages that anyone may read, and nothing hidden.
 ghost use Rattle.std.specs.Prelude.{◌≡◌, ◌%◌, false, replicate, Some};
-ghost use Rattle.tags.specs.Common.{Shown, is_off_tag, reacts_by};
-ghost use Rattle.tags.specs.Gauge.{gauge_means, gauge_acts, gauge_reads, gauge_obeys};
+ghost use Rattle.tags.specs.Gauge.{GaugeSized, gauge_holds, gauge_means, gauge_reads, gauge_obeys};
 ghost use Rattle.refusals.specs.Numbers.{outcome};
 ghost use Rattle.tags.specs.Making.{new_gauge, gauge_made};
-ghost use Rattle.tags.specs.Reacts.{Reacted};
-ghost use Rattle.tags.specs.Says.{page_said};
+ghost use Rattle.kinds.specs.Reacts.{Reacted};
+ghost use Rattle.kinds.specs.Says.{page_said};
 ghost use Rattle.tags.specs.Guarded.{gauge_duties};
 ghost use Rattle.tags.specs.GaugeConduct.{GaugeConduct};
+ghost use Rattle.tags.specs.Judging.{AnswersJudged};
 
-use crate::hearing::Response;
 use crate::link::Link;
-use crate::obeying::Obey;
+use crate::linked::{Body, Linked};
 use crate::pages::{PageBytes, page_front};
-use crate::said::{Nack, Said};
+use kinds::hearing::Response;
+use kinds::said::{Nack, Said};
 use refusals::Refusal;
-use typeb::frames::{Frame, Op};
+use typeb::frames::{Op, Serial};
 
+// What a gauge holds beside its link.
 #[derive(Clone, Copy)]
-pub struct GaugeTag {
-    link: Link,
+pub struct GaugePages {
     // two pages of eight bytes
     memory: [u8; 16],
 }
 
-impl GaugeTag {
-    // A tag just made, both of its pages zero. How a gauge conducts itself stands in clause `conduct`.
-    #[tactic(auto, using(crate::proofs::GaugeConducts::conduct))]
+pub type GaugeTag = Linked<GaugePages>;
+
+impl Linked<GaugePages> {
+    // A tag just made, both of its pages zero. How a gauge conducts itself stands in clause `conduct`; that the reader's half
+    // judges whatever it answers to exactly what it said, in clause `judged`.
+    #[tactic(auto, using(crate::proofs::GaugeConducts::conduct, crate::proofs::Judged::gauge_judged))]
     pub fn blank(draw: u16) -> GaugeTag
         ensures result { gauge_means result ≡ new_gauge (replicate 16 0) draw }
         ensures conduct { GaugeConduct }
+        ensures judged { AnswersJudged gauge_obeys GaugeSized }
     {
         GaugeTag::made([0u8; 16], draw)
     }
@@ -37,9 +41,9 @@ impl GaugeTag {
     fn made(memory: [u8; 16], draw: u16) -> GaugeTag
         ensures { gauge_means result ≡ new_gauge memory draw }
     {
-        GaugeTag {
+        Linked {
             link: Link::new(draw),
-            memory,
+            body: GaugePages { memory },
         }
     }
 
@@ -61,48 +65,39 @@ impl GaugeTag {
         if page >= 2 {
             return Err(Nack::Invalid);
         }
-        Ok(page_front(&self.memory, page as usize))
+        Ok(page_front(&self.body.memory, page as usize))
     }
 }
 
-impl Obey for GaugeTag {
+impl Body for GaugePages {
     ghost Hidden = { Unit {0} };
 
-    ghost means = { gauge_means };
+    ghost holds = { gauge_holds };
 
     ghost obeys = { gauge_obeys };
 
     ghost duties = { gauge_duties };
 
-    fn power_up(&mut self) {
-        self.link.gain_power();
+    fn serial(&self) -> Serial {
+        page_front(&self.memory, 0)
     }
 
-    fn power_down(&mut self) {
-        self.link.lose_power();
+    fn application(&self) -> [u8; 4] {
+        page_front(&self.memory, 1)
     }
 
-    fn link(&self) -> Link {
-        self.link
-    }
-
-    fn hear_link(&mut self, told: Frame<'_>) -> Option<Said> {
-        self.link.hear_for(told, &self.memory)
-    }
+    // A gauge is never open.
+    fn close(&mut self) {}
 
     // Of the data commands READ and DESELECT alone are heard.
-    fn obey(&mut self, op: Op, address: u8, bytes: PageBytes) -> Response {
-        let said = match op {
-            Op::Read => Some(Said::from(self.read(address))),
+    fn obey(tag: &mut GaugeTag, op: Op, address: u8, _bytes: PageBytes) -> Response {
+        match op {
+            Op::Read => Response::of(Some(Said::from(tag.read(address)))),
             Op::Deselect => {
-                self.link.deselect();
-                Some(Said::Acknowledged)
+                tag.link.deselect();
+                Response::of(Some(Said::Acknowledged))
             }
-            Op::Write | Op::Lock | Op::CheckPassword | Op::Count => None,
-        };
-        Response {
-            said,
-            accepted: false,
+            Op::Write | Op::Lock | Op::CheckPassword | Op::Count => Response::of(None),
         }
     }
 }

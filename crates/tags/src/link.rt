@@ -1,13 +1,12 @@
 // The part of a tag that every kind has: its state, card number and draw number.
-ghost use Rattle.std.specs.Prelude.{◌≡◌, ◌<◌, ◌≤◌, length};
+ghost use Rattle.std.specs.Prelude.{◌≡◌, None};
 ghost use Rattle.typeb.specs.Hears.{frame_of, slot_count};
-ghost use Rattle.tags.specs.Links.{new_link, gains_link, loses_link, drawn, link_hears, hears_request, requested, deselected};
-ghost use Rattle.tags.specs.Pages.{serial_in, application_in};
-ghost use Rattle.tags.specs.Says.{says_of, saying_of};
+ghost use Rattle.tags.specs.Links.{new_link, gains_link, loses_link, drawn, link_hears, requested, deselected, obeyed};
+ghost use Rattle.tags.specs.Orders.{said_next, order_next};
+ghost use Rattle.kinds.specs.Says.{says_of, saying_of};
 
-use crate::pages::page_front;
-use crate::said::Said;
-use typeb::frames::{Frame, Serial, Slots};
+use kinds::said::Said;
+use typeb::frames::{Frame, Op, Serial, Slots};
 
 #[derive(Clone, Copy, PartialEq, Eq, Debug)]
 pub enum State {
@@ -27,6 +26,20 @@ pub struct Link {
     pub cid: u8,
     // the number from which the next slot is drawn
     pub draw: u16,
+}
+
+// What follows of a frame for a tag with such a link.
+#[derive(Clone, Copy)]
+pub enum Next<'a> {
+    // no reply
+    Silence,
+    Say(Said),
+    // a data command with this card number: the tag obeys it
+    Obey {
+        op: Op,
+        address: u8,
+        bytes: &'a [u8; 8],
+    },
 }
 
 // A slot of those announced, and the next draw number, from a draw number.
@@ -73,61 +86,30 @@ impl Link {
     }
 
     // A request to this family: a slot is drawn where there are several, and the first is answered at once.
-    fn request(&mut self, answer: Said, slots: Slots) -> Option<Said>
+    fn request(&mut self, answer: Said, slots: Slots) -> Next<'static>
         ensures after { self.new ≡ (requested (says_of answer) (slot_count slots) self.old).after }
-        ensures says { saying_of result ≡ (requested (says_of answer) (slot_count slots) self.old).says }
+        ensures says { saying_of (said_next result) ≡ (requested (says_of answer) (slot_count slots) self.old).says }
+        ensures order { order_next result ≡ None }
     {
         if slots.count() > 1 {
             let (slot, next) = draw_slot(self.draw, slots);
             self.draw = next;
             if slot > 1 {
                 self.state = State::Requested { slot };
-                return None;
+                return Next::Silence;
             }
         }
         self.state = State::Declared;
-        Some(answer)
+        Next::Say(answer)
     }
 
-    // A request is heard in idle, requested and declared; halted hears only WUPB.
-    fn hear_request(
-        &mut self,
-        answer: Said,
-        family: u8,
-        wake_up: bool,
-        slots: Slots,
-    ) -> Option<Said>
-        ensures after { self.new ≡ (hears_request (says_of answer) family wake_up slots self.old).after }
-        ensures says { saying_of result ≡ (hears_request (says_of answer) family wake_up slots self.old).says }
-    {
-        match (self.state, family) {
-            (State::Off | State::Active, _) => None,
-            (State::Halted, _) if !wake_up => None,
-            (_, 0 | 1) => self.request(answer, slots),
-            (State::Halted, _) => None,
-            (State::Idle | State::Requested { .. } | State::Declared, _) => {
-                self.state = State::Idle;
-                None
-            }
-        }
-    }
-
-    // Hears for a tag whose memory begins with serial number and application data. Every tag does so with every frame but a
-    // data command, hence the hint here and at `hear`.
+    // Hears a frame, for a tag with this serial number and application data: what its state and the frame together decide.
+    // A pair that is not named gets no reply and changes nothing.
     #[inline(always)]
-    pub(crate) fn hear_for(&mut self, told: Frame<'_>, memory: &[u8]) -> Option<Said>
-        requires { 16 ≤ length memory.now }
-        ensures after { self.new ≡ (link_hears (serial_in memory.now) (application_in memory.now) (frame_of told.entry) self.old).after }
-        ensures says { saying_of result ≡ (link_hears (serial_in memory.now) (application_in memory.now) (frame_of told.entry) self.old).says }
-    {
-        self.hear(told, page_front(memory, 0), page_front(memory, 1))
-    }
-
-    // Hears a request, a slot marker, ATTRIB or HLTB, for a tag with this serial number and application data.
-    #[inline(always)]
-    pub fn hear(&mut self, told: Frame<'_>, own: Serial, application: [u8; 4]) -> Option<Said>
+    pub fn hear<'a>(&mut self, told: Frame<'a>, own: Serial, application: [u8; 4]) -> Next<'a>
         ensures after { self.new ≡ (link_hears own application (frame_of told.entry) self.old).after }
-        ensures says { saying_of result ≡ (link_hears own application (frame_of told.entry) self.old).says }
+        ensures says { saying_of (said_next result) ≡ (link_hears own application (frame_of told.entry) self.old).says }
+        ensures order { order_next result ≡ obeyed (frame_of told.entry) self.old }
     {
         let answer = Said::Answer {
             serial: own,
@@ -135,27 +117,48 @@ impl Link {
         };
         match (self.state, told) {
             (
-                _,
+                State::Idle | State::Requested { .. } | State::Declared,
                 Frame::Request {
-                    family,
-                    wake_up,
+                    family: 0 | 1,
+                    slots,
+                    ..
+                },
+            )
+            | (
+                State::Halted,
+                Frame::Request {
+                    family: 0 | 1,
+                    wake_up: true,
                     slots,
                 },
-            ) => self.hear_request(answer, family, wake_up, slots),
+            ) => self.request(answer, slots),
+            (State::Idle | State::Requested { .. } | State::Declared, Frame::Request { .. }) => {
+                self.state = State::Idle;
+                Next::Silence
+            }
             (State::Requested { slot: drawn }, Frame::SlotMarker { slot }) if drawn == slot => {
                 self.state = State::Declared;
-                Some(answer)
+                Next::Say(answer)
             }
             (State::Declared, Frame::Attrib { serial, params, .. }) if serial == own => {
                 self.cid = params[3] % 16;
                 self.state = State::Active;
-                Some(Said::Card(self.cid))
+                Next::Say(Said::Card(self.cid))
             }
             (State::Declared, Frame::Halt { serial }) if serial == own => {
                 self.state = State::Halted;
-                Some(Said::Acknowledged)
+                Next::Say(Said::Acknowledged)
             }
-            _ => None,
+            (
+                State::Active,
+                Frame::Command {
+                    op,
+                    cid,
+                    address,
+                    bytes,
+                },
+            ) if cid == self.cid => Next::Obey { op, address, bytes },
+            _ => Next::Silence,
         }
     }
 }

@@ -1,25 +1,25 @@
 // The pump tag, AT88RF020.
-ghost use Rattle.std.specs.Prelude.{◌≡◌, ℕ, ◌%◌, false, List, replicate, Some, is_ok};
+ghost use Rattle.std.specs.Prelude.{◌≡◌, ℕ, ◌%◌, false, List, replicate, Some, IfOk, is_ok};
 ghost use Rattle.tags.specs.Conduct.{Conduct};
 ghost use Rattle.refusals.specs.Numbers.{outcome};
-ghost use Rattle.tags.specs.Making.{new_pump, pump_made};
+ghost use Rattle.tags.specs.Making.{JustMade, new_pump, pump_made};
 ghost use Rattle.tags.specs.Pages.{unlocked, counter_in};
-ghost use Rattle.tags.specs.Common.{Shown, is_off_tag, reacts_by};
-ghost use Rattle.tags.specs.Pump.{pump_means, page_of, with_page, pump_acts, pump_obeys};
+ghost use Rattle.tags.specs.Judging.{AnswersJudged};
+ghost use Rattle.tags.specs.Pump.{PumpSized, pump_holds, pump_means, page_of, with_page, pump_obeys};
 ghost use Rattle.tags.specs.Pump.{pump_reads, pump_writes, pump_locks, pump_checks, pump_counts};
-ghost use Rattle.tags.specs.Reacts.{Reacted};
-ghost use Rattle.tags.specs.declared.said.Nack.TheVariants.{Locked, NotOpen};
-ghost use Rattle.tags.specs.Says.{granted, page_said, done_said};
+ghost use Rattle.kinds.specs.Reacts.{Reacted};
+ghost use Rattle.kinds.specs.declared.said.Nack.TheVariants.{Locked, NotOpen};
+ghost use Rattle.kinds.specs.Says.{granted, page_said, done_said};
 ghost use Rattle.tags.specs.Guarded.{pump_duties};
 
-use crate::hearing::Response;
 use crate::link::Link;
-use crate::obeying::Obey;
+use crate::linked::{Body, Linked};
 use crate::pages::{PageBytes, page_front, set_page};
 use crate::rights::{Reading, Writing, rights_of};
-use crate::said::{Nack, Said};
+use kinds::hearing::Response;
+use kinds::said::{Nack, Said};
 use refusals::Refusal;
-use typeb::frames::{Frame, Op};
+use typeb::frames::{Op, Serial};
 
 // The page of serial number and lock bits, that of signature and counter, and the password.
 const LOCK_PAGE: u8 = 0;
@@ -31,21 +31,26 @@ const PASSWORD_PAGE: u8 = 3;
 // The counter stops here.
 const LAST_COUNT: u16 = 0x8000;
 
+// What a pump tag holds beside its link.
 #[derive(Clone, Copy)]
-pub struct PumpTag {
-    link: Link,
+pub struct PumpPages {
     opened: bool,
     // 32 pages of eight bytes
     memory: [u8; 256],
 }
 
-impl PumpTag {
+pub type PumpTag = Linked<PumpPages>;
+
+impl Linked<PumpPages> {
     // A tag just made, all of its pages zero.
-    // How a pump tag conducts itself, whatever it holds, stands in clause `conduct`.
-    #[tactic(auto, using(crate::proofs::Conducts::conduct))]
+    // How a pump tag conducts itself, whatever it holds, stands in clause `conduct`; that the reader's half judges whatever it
+    // answers to exactly what it said, in clause `judged`.
+    #[tactic(auto, using(crate::proofs::Conducts::conduct, crate::proofs::Judged::pump_judged))]
     pub fn blank(draw: u16) -> PumpTag
         ensures result { pump_means result ≡ new_pump (replicate 256 0) draw }
         ensures conduct { Conduct }
+        ensures judged { AnswersJudged pump_obeys PumpSized }
+        ensures made { JustMade (pump_means result) }
     {
         PumpTag::made([0u8; 256], draw)
     }
@@ -53,16 +58,19 @@ impl PumpTag {
     fn made(memory: [u8; 256], draw: u16) -> PumpTag
         ensures { pump_means result ≡ new_pump memory draw }
     {
-        PumpTag {
+        Linked {
             link: Link::new(draw),
-            opened: false,
-            memory,
+            body: PumpPages {
+                opened: false,
+                memory,
+            },
         }
     }
 
     // A tag just made, with these pages.
     pub fn from_image(image: &[u8], draw: u16) -> Result<PumpTag, Refusal>
-        ensures { outcome pump_means result ≡ pump_made image.now draw }
+        ensures result { outcome pump_means result ≡ pump_made image.now draw }
+        ensures made { IfOk result (λ tag. JustMade (pump_means tag)) }
     {
         let memory = image.as_array::<256>().ok_or(Refusal::ImageLength)?;
         let tag = PumpTag::made(*memory, draw);
@@ -80,7 +88,7 @@ impl PumpTag {
     fn page(&self, address: u8) -> PageBytes
         ensures { result ≡ page_of (address % 32) (pump_means self.now) }
     {
-        page_front(&self.memory, (address % 32) as usize)
+        page_front(&self.body.memory, (address % 32) as usize)
     }
 
     #[tactic(auto, using(crate::proofs::Shown::put_shown, crate::proofs::Shown::put_hidden))]
@@ -88,7 +96,7 @@ impl PumpTag {
         ensures { pump_means self.new ≡ with_page (address % 32) page (pump_means self.old) }
     {
         // the memory has each of these pages
-        let _ = set_page(&mut self.memory, (address % 32) as usize, page);
+        let _ = set_page(&mut self.body.memory, (address % 32) as usize, page);
     }
 
     // The page's lock bit is clear.
@@ -109,11 +117,11 @@ impl PumpTag {
 }
 
 // The data commands. Each asks its questions in order; a refusal leaves the tag as it was.
-impl PumpTag {
+impl Linked<PumpPages> {
     fn ask_open(&self) -> Result<(), Nack>
         ensures { result ≡ granted (pump_means self.now).opened NotOpen }
     {
-        if self.opened {
+        if self.body.opened {
             Ok(())
         } else {
             Err(Nack::NotOpen)
@@ -135,7 +143,7 @@ impl PumpTag {
     {
         match rights_of(address).read {
             Reading::Never => Err(Nack::Invalid),
-            Reading::WhenOpen if !self.opened => Err(Nack::NotOpen),
+            Reading::WhenOpen if !self.body.opened => Err(Nack::NotOpen),
             Reading::WhenOpen | Reading::Always => Ok(self.page(address)),
         }
     }
@@ -171,7 +179,7 @@ impl PumpTag {
     fn check_password(&mut self, bytes: PageBytes) -> Result<(), Nack>
         ensures { Reacted (pump_checks bytes (pump_means self.old)) (pump_means self.new) (Some (done_said result)) (is_ok result) }
     {
-        self.opened = bytes != [0xFF; 8] && bytes == self.page(PASSWORD_PAGE);
+        self.body.opened = bytes != [0xFF; 8] && bytes == self.page(PASSWORD_PAGE);
         self.ask_open()
     }
 
@@ -191,53 +199,45 @@ impl PumpTag {
     }
 }
 
-impl Obey for PumpTag {
+impl Body for PumpPages {
     ghost Hidden = { List ℕ };
 
-    ghost means = { pump_means };
+    ghost holds = { pump_holds };
 
     ghost obeys = { pump_obeys };
 
     ghost duties = { pump_duties };
 
-    fn power_up(&mut self) {
-        self.link.gain_power();
+    fn serial(&self) -> Serial {
+        page_front(&self.memory, 0)
     }
 
-    fn power_down(&mut self) {
-        self.link.lose_power();
+    fn application(&self) -> [u8; 4] {
+        page_front(&self.memory, 1)
+    }
+
+    fn close(&mut self) {
         self.opened = false;
     }
 
-    fn link(&self) -> Link {
-        self.link
-    }
-
-    fn hear_link(&mut self, told: Frame<'_>) -> Option<Said> {
-        self.link.hear_for(told, &self.memory)
-    }
-
-    fn obey(&mut self, op: Op, address: u8, bytes: PageBytes) -> Response {
+    fn obey(tag: &mut PumpTag, op: Op, address: u8, bytes: PageBytes) -> Response {
         let said = match op {
-            Op::Read => Said::from(self.read(address)),
-            Op::Write => Said::from(self.write(address, bytes)),
-            Op::Lock => Said::from(self.lock(bytes)),
+            Op::Read => Said::from(tag.read(address)),
+            Op::Write => Said::from(tag.write(address, bytes)),
+            Op::Lock => Said::from(tag.lock(bytes)),
             Op::CheckPassword => {
-                let checked = self.check_password(bytes);
+                let checked = tag.check_password(bytes);
                 return Response {
                     said: Some(Said::from(checked)),
                     accepted: checked.is_ok(),
                 };
             }
             Op::Deselect => {
-                self.link.deselect();
+                tag.link.deselect();
                 Said::Acknowledged
             }
-            Op::Count => Said::from(self.count(bytes)),
+            Op::Count => Said::from(tag.count(bytes)),
         };
-        Response {
-            said: Some(said),
-            accepted: false,
-        }
+        Response::of(Some(said))
     }
 }

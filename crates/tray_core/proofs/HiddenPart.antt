@@ -1,9 +1,9 @@
 -- No caller can tell two trays apart that differ only in what one closed tag hides.
 use Rattle.std.proofs.Common.{◌≡◌, ℕ, ◌-◌, Bool, true, false, cond, ltb, List, [], ◌∷◌, ◌++◌, length, drop, Some, None, Ok, Option, refl, ap, subst, ap₂}
-use Rattle.tags.specs.Kinds.{Behaviour, Duties}
-use Rattle.tray_core.specs.Laws.{Hiding}
+use Rattle.kinds.specs.Kinds.{Behaviour, Duties}
+use Rattle.tray_core.specs.Hiding.{Which, front, back, accepts, NoneInScript, NoneInCall, NoCheck, Apart, Hiding}
 use Rattle.tray_core.specs.Rows.{Post, change_at, placed, lifted}
-use Rattle.tray_core.specs.Runs.{Turn, Seen, Which, front, back, turn, run, seen, accepts, NoneInScript, NoneInCall, NoCheck, Apart}
+use Rattle.tray_core.specs.Runs.{Turn, Seen, turn, run, seen}
 use Rattle.tray_core.specs.Scripts.{Script, done, send, played, after_play}
 use Rattle.tray_core.specs.Sounds.{Sounds, meet}
 use Rattle.tray_core.specs.Step.{Asks, On, Off, Place, Lift, Frame, Stock, Outcome, own_question, refused_by, heard_answer, heard_buffer, figures, does, unless_refused, step}

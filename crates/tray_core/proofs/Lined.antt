@@ -1,8 +1,7 @@
--- A row by its flags and tags: its length, and what stands in it after its tags were refilled.
+-- A row by its flags and tags: its length, and a row just made.
 use Rattle.std.proofs.Common.{◌≡◌, ℕ, zero, suc, Bool, true, List, [], ◌∷◌, map, length, replicate, vec_items, vec_len, sym, refl, ap, ◌∙◌}
-use Rattle.std.specs.Vec.{with_items}
-use Rattle.std.proofs.lemmas.List.{length-map, with_items_is}
-use Rattle.tags.specs.Kinds.{Meaning}
+use Rattle.std.proofs.lemmas.List.{length-map}
+use Rattle.kinds.specs.Kinds.{Meaning}
 use Rattle.tray_core.specs.declared.row.Row.{Row}
 use Rattle.tray_core.specs.Trays.{present}
 use Rattle.tray_core.specs.Views.{posts, row_of}
@@ -15,11 +14,6 @@ length_posts (b ∷ flags) (m ∷ ms) = ap suc (length_posts flags ms)
 
 pub long_row : {K S H : Type 0} (means : K → Meaning S H) (row : Row K) → length (row_of means row) ≡ vec_len row.tags
 long_row means row = length_posts row.present (map means (vec_items row.tags)) ∙ length-map (vec_items row.tags) means ∙ sym row.tags.ok.0
-
--- a row whose tags were refilled
-pub refilled : {K S H : Type 0} (means : K → Meaning S H) (row : Row K) (tags : List K) → length tags ≡ vec_len row.tags
-    → posts row.present (map means (vec_items (with_items row.tags tags))) ≡ posts row.present (map means tags)
-refilled means row tags e = ap (λ ts. posts row.present (map means ts)) (with_items_is row.tags tags e)
 
 -- a row just made: every tag is on the tray
 pub all_present : {S H : Type 0} (n : ℕ) (ms : List (Meaning S H)) → posts (replicate n true) ms ≡ map present ms

@@ -1,8 +1,8 @@
 -- Rows that differ at most in what one closed tag hides, and all that a tray does to a row: they stay so.
-use Rattle.std.proofs.Common.{◌≡◌, ℕ, zero, suc, Bool, true, false, List, [], ◌∷◌, map, length, Some, None, Option, refl, ap, subst}
-use Rattle.tags.specs.Kinds.{Meaning, Behaviour, Duties, Twins}
-use Rattle.tray_core.specs.Rows.{Post, if_here, change_at, row_gains, row_loses, placed, lifted, voice_at, row_hears, row_sounds, accepts_at}
-use Rattle.tray_core.specs.Runs.{ApartAt}
+use Rattle.std.proofs.Common.{◌≡◌, ℕ, zero, suc, Bool, true, false, List, [], ◌∷◌, map, length, Some, None, Option, slice_get, refl, ap, subst}
+use Rattle.kinds.specs.Kinds.{Meaning, Behaviour, Duties, Twins}
+use Rattle.tray_core.specs.Rows.{Post, if_here, change_at, row_gains, row_loses, placed, lifted, voice_at, row_hears, row_sounds}
+use Rattle.tray_core.specs.Hiding.{ApartAt, place_accepts}
 use Rattle.tray_core.specs.Sounds.{voice, meet}
 
 -- two places with twins, and two rows with such places at a number, or nowhere, and equal elsewhere
@@ -68,7 +68,7 @@ module _ {S H : Type 0} where
   -- the tag with a number, if any, accepts a check
   abbrev pub accepts_in : Behaviour S H → Option ℕ → List ℕ → List (Post S H) → Bool
   accepts_in acts None frame row = false
-  accepts_in acts (Some n) frame row = accepts_at acts n frame row
+  accepts_in acts (Some n) frame row = place_accepts acts frame (slice_get row n)
 
   -- what a kind that keeps its duties does
   module _ {off : S → Bool} (acts : Behaviour S H) (duties : Duties off acts) where

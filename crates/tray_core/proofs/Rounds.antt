@@ -1,7 +1,7 @@
 -- A round slot by slot, and a stock round by round: what is left of the script from here gives the whole.
 use Rattle.std.proofs.Common.{◌≡◌, ℕ, suc, ◌+◌, ◌-◌, ◌<◌, ◌≤◌, Bool, true, false, cond, List, [], length, get_or, drop, sym, ap, ◌∙◌, arith}
 use Rattle.std.proofs.lemmas.List.{drop_all, drop-drop, drop_more}
-use Rattle.tags.specs.Kinds.{Behaviour}
+use Rattle.kinds.specs.Kinds.{Behaviour}
 use Rattle.tray_core.specs.declared.progress.Progress.{Progress}
 use Rattle.tray_core.specs.Scripts.{Script, done, played, after_play, SameEnd}
 use Rattle.tray_core.specs.Stock.{Tally, slot, slots, rounds, round_frames, next_round}

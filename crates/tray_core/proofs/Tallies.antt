@@ -4,7 +4,7 @@ use Rattle.std.specs.Str.{bytes_eq}
 use Rattle.std.proofs.lemmas.Cmp.{nat_list_eq_equiv}
 use Rattle.std.proofs.lemmas.List.{length_push}
 use Rattle.std.proofs.lemmas.Bool.{or_parts, or_from}
-use Rattle.tags.specs.Kinds.{Behaviour}
+use Rattle.kinds.specs.Kinds.{Behaviour}
 use Rattle.tray_core.specs.Scripts.{Script, done, send, played}
 use Rattle.tray_core.specs.Sounds.{Sounds, Silence, Reply, Clash}
 use Rattle.tray_core.specs.Stock.{Tally, Fair, Once, lists, nothing, sent, next_round, clashed, loud, noted, answering, halting, in_slot, slots, rounds, round_frames, stocktaking}

@@ -2,7 +2,7 @@
 use Rattle.std.proofs.Common.{◌≡◌, ℕ, zero, suc, ◌+◌, ◌<◌, ◌≤◌, Bool, true, false, cond, not, ◌&&◌, List, [], ◌∷◌, map, length, get_or, drop, set, sym, refl, ap, ◌∙◌, add-one, arith}
 use mathlib.Core.Bool.{beq}
 use Rattle.std.proofs.lemmas.List.{get_or-map, length-map, map-set}
-use Rattle.tags.specs.Kinds.{Meaning, Behaviour}
+use Rattle.kinds.specs.Kinds.{Meaning, Behaviour}
 use Rattle.tray_core.specs.Rows.{Post, if_here, change_at, powers, row_powers, moved, row_sounds, hearing}
 use Rattle.tray_core.specs.Sounds.{Sounds, Silence, meet, voice}
 use Rattle.tray_core.specs.Views.{posts}

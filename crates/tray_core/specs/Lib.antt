@@ -4,9 +4,8 @@ pub mod Trays
 pub mod Scripts
 pub mod Stock
 pub mod Step
-pub mod Worked
 pub mod Steps
 pub mod Runs
-pub mod Laws
+pub mod Hiding
 pub mod Views
 pub mod Lending

@@ -1,6 +1,6 @@
 -- A row of tags of one kind.
 use Rattle.std.specs.Prelude.{ℕ, zero, suc, Bool, true, false, cond, List, [], ◌∷◌, map}
-use Rattle.tags.specs.Kinds.{Meaning, Behaviour}
+use Rattle.kinds.specs.Kinds.{Meaning, Behaviour}
 use Rattle.tray_core.specs.Sounds.{Sounds, Silence, voice, meet}
 
 -- A place in a row: whether its tag is on the tray, and the tag.
@@ -62,9 +62,3 @@ module _ {S H : Type 0} where
     abbrev pub row_sounds : List ℕ → List (Post S H) → Sounds
     row_sounds frame [] = Silence
     row_sounds frame (p ∷ row) = meet (voice_at frame p) (row_sounds frame row)
-
-    -- The tag with a number accepts a check in this frame.
-    abbrev pub accepts_at : ℕ → List ℕ → List (Post S H) → Bool
-    accepts_at n frame [] = false
-    accepts_at zero frame (p ∷ row) = cond p.here (b.hears frame p.tag).accepted false
-    accepts_at (suc n) frame (p ∷ row) = accepts_at n frame row

@@ -1,6 +1,6 @@
 -- What a reader does, without a tray: it sends frames, and goes on by what it hears.
 use Rattle.std.specs.Prelude.{◌≡◌, ℕ, List}
-use Rattle.tags.specs.Kinds.{Behaviour}
+use Rattle.kinds.specs.Kinds.{Behaviour}
 use Rattle.tray_core.specs.Sounds.{Sounds}
 use Rattle.tray_core.specs.Trays.{Model, after_frame, sounds_of}
 

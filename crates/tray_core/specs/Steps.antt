@@ -1,7 +1,7 @@
 -- One call in the subject's words: laws of `step` for every kind and every tray, in any state, reached or not.
 use Rattle.std.specs.Prelude.{◌≡◌, ℕ, ◌+◌, ◌<◌, ◌≤◌, ◌⊎◌, Bool, true, false, cond, not, ◌&&◌, ◌||◌, List, [], ◌∷◌, ◌++◌, length, drop, Ok, Err, ◌==◌, ◌≢◌, slice_get}
 use Rattle.std.specs.Option.{option_map}
-use Rattle.tags.specs.Kinds.{Behaviour}
+use Rattle.kinds.specs.Kinds.{Behaviour}
 use Rattle.tray_core.specs.declared.calls.Answer.{Answer}
 use Rattle.tray_core.specs.declared.calls.Answer.TheVariants as answer
 use Rattle.tray_core.specs.Rows.{Post}

@@ -2,7 +2,7 @@
 use Rattle.std.specs.Prelude.{◌≡◌, ℕ, zero, suc, ◌+◌, ◌*◌, ◌≤◌, Bool, true, false, cond, ◌||◌, List, [], ◌∷◌, ◌++◌, map, length, Some, None, Ok, Err, Option, Result}
 use Rattle.std.specs.List.{range_with_len}
 use Rattle.std.specs.Str.{bytes_eq}
-use Rattle.tags.specs.Says.{Says, Answer, Card, Page, Acknowledged, Refused}
+use Rattle.kinds.specs.Says.{Says, Answer, Card, Page, Acknowledged, Refused}
 use Rattle.reader.specs.Commands.{Request, SlotMarker, Halt, frame_for}
 use Rattle.reader.specs.Judged.{judged}
 use Rattle.tray_core.specs.Scripts.{Script, done, send}

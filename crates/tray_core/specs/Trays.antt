@@ -1,6 +1,6 @@
 -- A tray: a front row, a back row and the field. A tag has power when it is on the tray and the field is on.
 use Rattle.std.specs.Prelude.{ℕ, ◌-◌, Bool, true, false, cond, ◌&&◌, ◌||◌, List, map, length, nat_le, nat_lt}
-use Rattle.tags.specs.Kinds.{Meaning, Behaviour}
+use Rattle.kinds.specs.Kinds.{Meaning, Behaviour}
 use Rattle.tray_core.specs.Rows.{Post, change_at, row_gains, row_loses, placed, lifted, row_hears, row_sounds}
 use Rattle.tray_core.specs.Sounds.{Sounds, Silence, meet}
 

@@ -1,7 +1,7 @@
 -- What the values of the code stand for.
 use Rattle.std.specs.Prelude.{◌≡◌, ℕ, ◌+◌, ◌*◌, ◌≤◌, Bool, true, List, [], ◌∷◌, map, take, drop, Ok, Err, Result, vec_items}
 use Rattle.typeb.specs.Messages.{bytes_of}
-use Rattle.tags.specs.Kinds.{Meaning}
+use Rattle.kinds.specs.Kinds.{Meaning}
 use Rattle.tray_core.specs.declared.row.Row.{Row}
 use Rattle.tray_core.specs.declared.row.TooLong.{TooLong}
 use Rattle.tray_core.specs.declared.sounds.Sounds.{Sounds}

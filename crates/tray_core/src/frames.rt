@@ -7,8 +7,8 @@ ghost use Rattle.tray_core.specs.Views.{model_of};
 use crate::calls::Answer;
 use crate::sounds::Sounds;
 use crate::tray::Tray;
+use kinds::kind::Kind;
 use refusals::Refusal;
-use tags::kind::Kind;
 
 impl<F: Kind, B: Kind> Tray<F, B> {
     // Every tag with power hears the frame. One reply goes to the front of the buffer; other bytes stay.

@@ -6,7 +6,7 @@ ghost use Rattle.tray_core.specs.Sounds.{meet, voice};
 ghost use Rattle.tray_core.specs.Views.{sounds_in, how_many};
 
 use crate::sounds::Sounds;
-use tags::kind::Kind;
+use kinds::kind::Kind;
 use typeb::message::Message;
 use typeb::received::Received;
 
@@ -34,7 +34,7 @@ pub(crate) fn tell_tag<K: Kind>(tag: &mut K, frame: &Received<'_>, heard: &mut S
     ensures count { how_many heard.new ≤ how_many heard.old + 1 }
 {
     let mut bytes = [0u8; 16];
-    let told = tag.hear_received(frame, &mut bytes);
+    let told = tag.hear(frame, &mut bytes);
     if told.len > 0 {
         *heard = meet_sounds(*heard, Sounds::Reply(Message::front_of(bytes, told.len)));
     }

@@ -3,12 +3,11 @@
 
 pub mod calls;
 pub mod frames;
-pub mod handling;
 mod hearing;
 mod progress;
 mod row;
-mod rows;
 mod sounds;
 mod speaking;
 pub mod stock;
 pub mod tray;
+mod walking;

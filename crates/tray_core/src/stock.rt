@@ -5,7 +5,6 @@ ghost use Rattle.tray_core.specs.Scripts.{Script, done, played, SameEnd};
 ghost use Rattle.tray_core.specs.Stock.{Fair, Tally, slot, slots, round_frames, next_round, stocktaking};
 ghost use Rattle.tray_core.specs.Step.{Stepped, step, Stock};
 ghost use Rattle.tray_core.specs.Trays.{Model};
-ghost use Rattle.tray_core.specs.Worked.{WorkedStocks};
 ghost use Rattle.tray_core.specs.Views.{GoesOn, NotedIn, begun, model_of, rows_of, sounds_in, tally_of};
 
 use crate::calls::Answer;
@@ -13,8 +12,8 @@ use crate::progress::Progress;
 use crate::sounds::Sounds;
 use crate::speaking::{answering_serial, halt_frame, slot_frame};
 use crate::tray::{Rows, Tray};
+use kinds::kind::Kind;
 use refusals::Refusal;
-use tags::kind::Kind;
 use typeb::frames::Serial;
 use typeb::message::Message;
 
@@ -107,11 +106,10 @@ impl<F: Kind, B: Kind> Rows<F, B> {
 impl<F: Kind, B: Kind> Tray<F, B> {
     // Lists the serial numbers of the tags that answer, each once, in the first places of the list.
     // Answers frames sent, rounds, clashed slots of the last round, and how many places are filled.
-    #[tactic(auto, using(crate::proofs::Asked::fitting, crate::proofs::Tallies::fair_stock, crate::proofs::Worked::worked_stocks))]
+    #[tactic(auto, using(crate::proofs::Asked::fitting, crate::proofs::Tallies::fair_stock))]
     pub fn stock(&mut self, list: &mut [Serial]) -> Result<Answer, Refusal>
         ensures result { (b : List ℕ) → Stepped (step F.Kind.acts B.Kind.acts Stock (model_of F.Kind.means B.Kind.means self.old) b list.old) result (model_of F.Kind.means B.Kind.means self.new) b list.new }
         ensures fair { (t : Model F.Kind.Shown F.Kind.Hidden B.Kind.Shown B.Kind.Hidden) → Fair (played F.Kind.acts B.Kind.acts stocktaking t) }
-        ensures worked { WorkedStocks }
     {
         let rows = self.fitting()?;
         if list.len() < 128 {

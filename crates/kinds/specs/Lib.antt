@@ -1,0 +1,4 @@
+pub mod Kinds
+pub mod Says
+pub mod Reacts
+pub mod Unwinding
