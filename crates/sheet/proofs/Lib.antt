@@ -2,3 +2,4 @@ pub mod Drafted
 pub mod Ran
 pub mod Playing
 pub mod Worked
+pub mod Loading

@@ -3,7 +3,9 @@ use Rattle.std.specs.Prelude.{◌≡◌, ℕ, ◌+◌, List, [], ◌∷◌, ◌+
 use Rattle.tags.specs.Gauge.{gauge_acts}
 use Rattle.tags.specs.Pump.{pump_acts}
 use Rattle.tray_core.specs.declared.calls.Answer.{Answer}
-use Rattle.tray_core.specs.Step.{Asks, Outcome, step}
+use Rattle.tray_core.specs.Runs.{Turn, turn}
+use Rattle.tray_core.specs.Step.{Asks, Outcome}
+use Rattle.handling.specs.Laws.{Loaded, front_row}
 use Rattle.sheet.specs.declared.faults.LineFault.{LineFault}
 use Rattle.sheet.specs.declared.words.TagKind.{TagKind}
 use Rattle.parts.specs.Parts.{parted}
@@ -51,8 +53,12 @@ abbrev pub Leads : Stage → List Names → Stage → Type 0
 Leads stage [] last = stage ≡ last
 Leads stage (line ∷ lines) last = (next : Stage) × ((does_name line stage ≡ Went [] next) × Leads next lines last)
 
+-- A call line as a turn of a run: its call, with the buffer and the list that each call has.
+abbrev pub turn_of : CallLine → Turn
+turn_of line = record { call = line.call; buffer = empty_buffer; list = empty_list }
+
 abbrev pub step_of : CallLine → SheetTray → Outcome SheetTray
-step_of line tray = step pump_acts gauge_acts line.call tray empty_buffer empty_list
+step_of line tray = turn pump_acts gauge_acts (turn_of line) tray
 
 -- Calls put to a tray one after another, each answered, print this text.
 abbrev pub Played : SheetTray → List CallLine → List ℕ → Type 0
@@ -82,6 +88,8 @@ pub record Plays (stage : Stage) (names : List Names) (calls : List CallLine) (r
   pub prints : run.text ≡ text ++ refusal_text run.refused
   pub whole : run.refused ≡ None → unmade ≡ []
 
--- So does the run of a sheet, from a tray without tags.
-abbrev pub SheetPlays : List ℕ → Type 0
-SheetPlays sheet = Plays (Naming [] []) (names_in (parted 10 sheet)) (calls_in 1 (parted 10 sheet)) (run_of sheet)
+-- So does the run of a sheet, from a tray without tags. What it loads is a loaded tray in the sense of the law over every run:
+-- the calls that it plays are turns of such a run, so that law holds of them.
+pub record SheetPlays (sheet : List ℕ) : Type 0 where
+  pub plays : Plays (Naming [] []) (names_in (parted 10 sheet)) (calls_in 1 (parted 10 sheet)) (run_of sheet)
+  pub loads : Loaded front_row (tray_in plays.loaded)

@@ -14,6 +14,7 @@ use crate::naming::Named;
 use crate::printing::Answered;
 use crate::stops::LineStop;
 use crate::words::TagKind;
+use handling::handle;
 use std::alloc::{AllocError, Global};
 use tags::gauge::GaugeTag;
 use tags::pump::PumpTag;
@@ -106,7 +107,7 @@ fn call_tray(
 {
     let mut buffer = [0u8; 16];
     let mut list = [[0u8; 4]; 128];
-    let answer = tray.handle(Call::from(&order), &mut buffer, &mut list)?;
+    let answer = handle(&mut tray, Call::from(&order), &mut buffer, &mut list)?;
     let answered = Answered {
         number,
         answer,

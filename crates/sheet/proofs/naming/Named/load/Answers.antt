@@ -11,4 +11,4 @@ pub returns : goal.returns
 returns c =
     let front = ap (map pump_means) c.in_ok-front.ensures ∙ tags_mean pump_means _ ∙ ap (λ drafts. tags_of (map pump_draft drafts)) c.as_slice.ensures.value in
     let back = ap (map gauge_means) c.in_ok-back.ensures ∙ tags_mean gauge_means _ ∙ ap (λ drafts. tags_of (map gauge_draft drafts)) c.as_slice-2.ensures.value in
-    c.load.ensures ∙ ap (λ tags. loaded_with tags (map gauge_means c.in_ok-back.back.items)) front ∙ ap (loaded_with _) back
+    c.load.ensures.result ∙ ap (λ tags. loaded_with tags (map gauge_means c.in_ok-back.back.items)) front ∙ ap (loaded_with _) back
