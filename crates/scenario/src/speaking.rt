@@ -7,12 +7,12 @@ ghost use Rattle.tray_core.specs.Views.{model_of};
 ghost use Rattle.scenario.specs.Speaks.{hearing_after, hearing_back, hearing_in, reply_size, taken, tray_after, buffer_after};
 
 use handling::handle;
+use kinds::kind::Kind;
 use reader::commands::Command;
 use reader::judging::judge;
 use reader::making::make;
 use reader::replies::Reply;
 use refusals::Refusal;
-use kinds::kind::Kind;
 use tray_core::calls::{Answer, Call};
 use tray_core::tray::Tray;
 use typeb::frames::Serial;

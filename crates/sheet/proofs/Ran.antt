@@ -1,5 +1,5 @@
 -- The steps of a run, as the code cuts its lines.
-use Rattle.std.proofs.Common.{◌≡◌, ℕ, ◌+◌, ◌<◌, ◌≤◌, min, ◌⊎◌, inl, inr, Bool, false, cond, eqb, leb, List, [], ◌∷◌, ◌++◌, length, get_or, take, Ok, Err, Result, sym, refl, ap, ◌∙◌, subst, append_assoc, arith, length-append, length-take-le}
+use Rattle.std.proofs.Common.{◌≡◌, ℕ, ◌+◌, ◌<◌, ◌≤◌, min, ◌⊎◌, inl, inr, Bool, false, cond, eqb, leb, List, [], ◌∷◌, ◌++◌, length, get_or, take, Ok, Err, Global, String, string_bytes, Result, sym, refl, ap, ◌∙◌, subst, append_assoc, arith, length-append, length-take-le}
 use Rattle.std.specs.List.{AllWithin, IsFirstMatchOrLen}
 use Rattle.std.specs.Result.{MatchResult, IsErrAnd}
 use Rattle.std.proofs.lemmas.Bool.{cond-true, cond-false, cases_lt, eqb-true, le-leb, lt-leb, ne_eqb}
@@ -97,23 +97,23 @@ went number old new (Stopped why) after lines e = cc
 
 -- what a line answered, its fault made the sheet's
 module _ (post : LineStop → SheetStop → Type 0) (number : ℕ) (at : (e : LineStop) (s : SheetStop) → post e s → s ≡ stop_at number e) where
-  pub line_went : (r : Result coded.Stage LineStop) (m : Result coded.Stage SheetStop) (old new : List ℕ) (came : Came) (after : coded.Stage) (lines : List (List ℕ))
+  pub line_went : (r : Result coded.Stage LineStop) (m : Result coded.Stage SheetStop) (old new : String Global) (came : Came) (after : coded.Stage) (lines : List (List ℕ))
       → MatchResult r (λ x. m ≡ Ok x) (λ e. IsErrAnd m (post e)) → CameBy r old new came → m ≡ Ok after
-      → before new (lines_run (number + 1) (stage_of after) lines) ≡ before old (go_on number came (onward number lines))
+      → before (string_bytes new) (lines_run (number + 1) (stage_of after) lines) ≡ before (string_bytes old) (go_on number came (onward number lines))
   line_went (Ok stage) m old new came after lines maps by is =
       let same : stage ≡ after = cc in
-      went number old new came (stage_of after) lines (by ∙ ap (λ (s : coded.Stage). Went new (stage_of s)) same)
+      went number (string_bytes old) (string_bytes new) came (stage_of after) lines (by ∙ ap (λ (s : coded.Stage). Went (string_bytes new) (stage_of s)) same)
   line_went (Err e) (Ok stage) old new came after lines maps by is = absurd maps
   line_went (Err e) (Err s) old new came after lines maps by is = cc
 
-  stops : (stop : LineStop) (came : Came) (old new : List ℕ) (rest : Stage → Run) (target : Run) → CameBy (Err stop) old new came → before old (go_on number came rest) ≡ target
+  stops : (stop : LineStop) (came : Came) (old new : String Global) (rest : Stage → Run) (target : Run) → CameBy (Err stop) old new came → before (string_bytes old) (go_on number came rest) ≡ target
       → RanBy (Err (stop_at number stop)) new target
   stops (is.Fault f) came old new rest target by e =
-      sym e ∙ ap (λ (x : Came). before old (go_on number x rest)) by.1 ∙ ap (λ (t : List ℕ). before t (stopped_at number (fault_number f))) (sym by.0)
+      sym e ∙ ap (λ (x : Came). before (string_bytes old) (go_on number x rest)) by.1 ∙ ap (λ (t : List ℕ). before t (stopped_at number (fault_number f))) (sym by.0)
   stops (is.Memory a) came old new rest target by e = tt
 
-  pub line_stopped : (r : Result coded.Stage LineStop) (m : Result coded.Stage SheetStop) (old new : List ℕ) (came : Came) (rest : Stage → Run) (target : Run) (stop : SheetStop)
-      → MatchResult r (λ x. m ≡ Ok x) (λ e. IsErrAnd m (post e)) → CameBy r old new came → m ≡ Err stop → before old (go_on number came rest) ≡ target → RanBy (Err stop) new target
+  pub line_stopped : (r : Result coded.Stage LineStop) (m : Result coded.Stage SheetStop) (old new : String Global) (came : Came) (rest : Stage → Run) (target : Run) (stop : SheetStop)
+      → MatchResult r (λ x. m ≡ Ok x) (λ e. IsErrAnd m (post e)) → CameBy r old new came → m ≡ Err stop → before (string_bytes old) (go_on number came rest) ≡ target → RanBy (Err stop) new target
   line_stopped (Ok stage) m old new came rest target stop maps by is e = cc
   line_stopped (Err f) (Ok stage) old new came rest target stop maps by is e = cc
   line_stopped (Err f) (Err s) old new came rest target stop maps by is e =

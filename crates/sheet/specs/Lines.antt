@@ -38,7 +38,7 @@ kind_of text =
     cond (bytes_eq text (codes "pump")) (Ok Pump)
     (cond (bytes_eq text (codes "gauge")) (Ok Gauge) (Err field.Kind))
 
--- What a line says: a tag of a kind with its draw, a page of a tag with its bytes, or a call of the tray.
+-- What a line says: a tag of a kind with its draw, a page of a tag with its bytes, or a call.
 pub data Says : Type 0 where
   Tag : TagKind → ℕ → Says
   Page : ℕ → ℕ → List ℕ → Says
@@ -49,7 +49,7 @@ abbrev pub reading : {A B : Type 0} → Result A FieldFault → (A → Result B 
 reading (Ok value) next = next value
 reading (Err why) next = Err (fault.Field why)
 
--- What the fields behind a word say: as many as the word has, each in its form, asked from the first to the last.
+-- What the fields behind a word say: as many as the word has, each in its form, the first asked first.
 abbrev pub word_says : Word → List (List ℕ) → Result Says LineFault
 word_says word.Tag (kind ∷ draw ∷ []) =
     reading (kind_of kind) (λ k. reading (draw_of draw) (λ d. Ok (Tag k d)))

@@ -1,6 +1,7 @@
 // Tags as a sheet names them, and their pages set.
 ghost use Rattle.std.specs.Prelude.{◌≡◌, ◌/◌, map, cond, Err, nat_lt};
-ghost use Rattle.sheet.specs.Drafts.{draft_of, drafted, left_by, repaged, row_paged, tag_of, zeroed};
+ghost use Rattle.sheet.specs.Drafts.{draft_of, drafted, left_by, repaged, row_paged, tag_of};
+ghost use Rattle.sheet.specs.Drafts.{zeroed};
 
 use crate::faults::LineFault;
 use crate::making::Make;
@@ -43,7 +44,8 @@ impl<T: Make<N>, const N: usize> Draft<T, N> {
 
     // The tag made anew, with a page set.
     fn with_page(&self, page: usize, bytes: [u8; 8]) -> Result<Draft<T, N>, LineFault>
-        ensures { drafted T.means result ≡ cond (nat_lt page (N / 8)) (repaged T.made page bytes (draft_of T.means self.now)) (Err 18) }
+        ensures { drafted T.means result ≡ cond (nat_lt page (N / 8))
+            (repaged T.made page bytes (draft_of T.means self.now)) (Err 18) }
     {
         let draw = self.draw;
         let mut image = self.image;
@@ -60,7 +62,8 @@ pub(crate) fn set_in_row<T: Make<N>, const N: usize>(
     page: usize,
     bytes: [u8; 8],
 ) -> Result<(), LineFault>
-    ensures { left_by result (map (draft_of T.means) row.new) ≡ row_paged T.made (N / 8) n page bytes (map (draft_of T.means) row.old) }
+    ensures { left_by result (map (draft_of T.means) row.new)
+        ≡ row_paged T.made (N / 8) n page bytes (map (draft_of T.means) row.old) }
 {
     // by its number twice: the search did not find the row after a write through `get_mut`
     let draft = row

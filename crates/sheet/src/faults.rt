@@ -23,7 +23,8 @@ pub enum LineFault {
     Refused(Refusal),
 }
 
-// This and the others like it are written out: a derived `From` has no `from_gives`, which the clauses of callers read.
+// This and the others like it are written out: a derived `From` has no `from_gives`, which the
+// clauses of callers read.
 impl From<FieldFault> for LineFault {
     ghost from_gives = { λ e r. r ≡ Field e };
 

@@ -1,4 +1,5 @@
-// Sheets: lines that name tags, set their pages and make calls of a tray, and the text that a run of one prints.
+// Sheets: lines that name tags, set their pages and make calls of a tray, and the text that a run
+// of one prints.
 #![tactic(auto)]
 
 mod drafts;

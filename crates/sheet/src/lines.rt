@@ -21,7 +21,8 @@ pub type Order = Call<Message>;
 pub enum Line {
     // a tag of a kind, with its draw
     Tag(TagKind, u16),
-    // a page of a tag, with its bytes: no struct, since they part on the way (the tag names a row, and a draft in it)
+    // a page of a tag, with its bytes: no struct, since they part on the way (the tag names a row,
+    // and a draft in it)
     Page(usize, usize, [u8; 8]),
     Calls(Order),
 }

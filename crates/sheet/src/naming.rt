@@ -2,10 +2,7 @@
 ghost use Rattle.std.specs.Prelude.{◌≡◌, [], map, IfOk, OnOk};
 ghost use Rattle.sheet.specs.Drafts.{tag_of};
 ghost use Rattle.sheet.specs.Sheets.{Naming, Went, named, paged, tray_in};
-ghost use Rattle.sheet.specs.Views.{named_stage, PagedBy};
-ghost use Rattle.tags.specs.Gauge.{gauge_means};
-ghost use Rattle.tags.specs.Pump.{pump_means};
-ghost use Rattle.tray_core.specs.Views.{model_of};
+ghost use Rattle.sheet.specs.Views.{named_stage, tray_of, PagedBy};
 
 use crate::drafts::{Draft, GaugeDraft, PumpDraft, set_in_row};
 use crate::faults::LineFault;
@@ -35,7 +32,8 @@ impl Named {
 
     // A tag of zero pages, next in its row.
     pub(crate) fn add(&mut self, kind: TagKind, draw: u16) -> Result<(), AllocError>
-        ensures { OnOk result (named kind draw (named_stage self.old) ≡ Went [] (named_stage self.new)) }
+        ensures { OnOk result
+            (named kind draw (named_stage self.old) ≡ Went [] (named_stage self.new)) }
     {
         match kind {
             TagKind::Pump => self.front.push(PumpDraft::blank(draw))?,
@@ -62,7 +60,7 @@ impl Named {
 
     // The tray with the tags that were named.
     pub(crate) fn load(&self, heap: Global) -> Result<Tray<PumpTag, GaugeTag>, AllocError>
-        ensures { IfOk result (λ tray. model_of pump_means gauge_means tray ≡ tray_in (named_stage self.now)) }
+        ensures { IfOk result (λ tray. tray_of tray ≡ tray_in (named_stage self.now)) }
     {
         let front = tags_of(heap, self.front.as_slice())?;
         let back = tags_of(heap, self.back.as_slice())?;

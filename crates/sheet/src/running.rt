@@ -2,7 +2,8 @@
 ghost use Rattle.std.specs.Prelude.{◌≡◌, [], IfOk, MatchOption, string_bytes};
 ghost use Rattle.sheet.specs.Cuts.{IsEnded, IsUnended};
 ghost use Rattle.parts.specs.Parts.{parted};
-ghost use Rattle.sheet.specs.Sheets.{Naming, before, stopped_at, lines_run, run_of, printed_of, refusal_of};
+ghost use Rattle.sheet.specs.Sheets.{Naming, before, refused_at, lines_run, run_of};
+ghost use Rattle.sheet.specs.Sheets.{printed_of, refusal_of};
 ghost use Rattle.sheet.specs.Played.{SheetPlays};
 ghost use Rattle.sheet.specs.Views.{refused_by, refused_in, run_by, RanBy};
 ghost use Rattle.sheet.specs.Worked.{WorkedSheets};
@@ -37,7 +38,8 @@ fn ended(line: &[u8]) -> Option<&[u8]>
 
 // Runs the lines of a sheet: what they print goes behind the text, also where a line stops the run.
 fn run_lines(heap: Global, sheet: &[u8], text: &mut String) -> Result<(), SheetStop>
-    ensures { RanBy result (string_bytes text.new) (before (string_bytes text.old) (lines_run 1 (Naming [] []) (parted 10 sheet.now))) }
+    ensures { RanBy result text.new
+        (before (string_bytes text.old) (lines_run 1 (Naming [] []) (parted 10 sheet.now))) }
 {
     let mut stage = Stage::Naming(Named::new(heap));
     for (i, line) in sheet.split_inclusive(|c| *c == b'\n').enumerate() {
@@ -52,7 +54,7 @@ fn run_lines(heap: Global, sheet: &[u8], text: &mut String) -> Result<(), SheetS
 
 // The same of a whole sheet, which may be too long.
 fn run_whole(heap: Global, sheet: &[u8], text: &mut String) -> Result<(), SheetStop>
-    ensures { RanBy result (string_bytes text.new) (before (string_bytes text.old) (run_of sheet.now)) }
+    ensures { RanBy result text.new (before (string_bytes text.old) (run_of sheet.now)) }
 {
     if sheet.len() > SHEET_MOST {
         return Err(SheetStop::from(SheetFault::TooLong));
@@ -62,7 +64,8 @@ fn run_whole(heap: Global, sheet: &[u8], text: &mut String) -> Result<(), SheetS
 
 // A run that is refused: the refusal's line ends its text.
 fn refuse(mut text: String, fault: SheetFault) -> Result<Ran, AllocError>
-    ensures { IfOk result (λ ran. run_by ran ≡ before (string_bytes text) (stopped_at (refused_by fault).line (refused_by fault).why)) }
+    ensures { IfOk result
+        (λ ran. run_by ran ≡ before (string_bytes text) (refused_at (refused_by fault))) }
 {
     let number = fault.line();
     let why = fault.number();
@@ -73,9 +76,10 @@ fn refuse(mut text: String, fault: SheetFault) -> Result<Ran, AllocError>
     })
 }
 
-// Runs a sheet: the text that it prints, the line of a refusal included, and why it was refused, if it was.
-// Want of memory is the only error. The text is that of the sheet's calls, put to the loaded tray one after
-// another up to the first refusal: clause `calls`. Sheets worked out by hand print what was worked out: clause `worked`.
+// Runs a sheet: the text that it prints, the line of a refusal included, and why it was refused, if
+// it was. Want of memory is the only error. The text is that of the sheet's calls, put one after
+// another, up to the first refusal, to a loaded tray as the law over every run means it: clause
+// `calls`. Sheets worked out by hand print what was worked out: clause `worked`.
 #[tactic(auto, using(crate::proofs::Playing::sheet_plays, crate::proofs::Worked::worked_sheets))]
 pub fn run_sheet(heap: Global, sheet: &[u8]) -> Result<Ran, AllocError>
     ensures printed { IfOk result (λ ran. string_bytes ran.text ≡ printed_of sheet.now) }

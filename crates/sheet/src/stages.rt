@@ -1,12 +1,8 @@
 // Where a run stands, and what lines do.
-ghost use Rattle.std.specs.Prelude.{◌≡◌, IfOk, string_bytes};
+ghost use Rattle.std.specs.Prelude.{◌≡◌, IfOk};
 ghost use Rattle.sheet.specs.Lines.{order_asks};
-ghost use Rattle.sheet.specs.Sheets.{named, paged, called, line_does, tray_in, called_on, empty_buffer, empty_list};
-ghost use Rattle.sheet.specs.Views.{stage_of, CameBy, NamedBy, QuietBy};
-ghost use Rattle.tags.specs.Gauge.{gauge_means, gauge_acts};
-ghost use Rattle.tags.specs.Pump.{pump_means, pump_acts};
-ghost use Rattle.tray_core.specs.Step.{step};
-ghost use Rattle.tray_core.specs.Views.{model_of};
+ghost use Rattle.sheet.specs.Sheets.{Calling, named, paged, called, line_does, tray_in};
+ghost use Rattle.sheet.specs.Views.{stage_of, tray_of, CameBy, NamedBy, QuietBy};
 
 use crate::faults::LineFault;
 use crate::lines::{Line, Order, read_line};
@@ -41,7 +37,7 @@ impl Stage {
 
     // The tray, loaded at the first call.
     fn into_tray(self, heap: Global) -> Result<Tray<PumpTag, GaugeTag>, AllocError>
-        ensures { IfOk result (λ tray. model_of pump_means gauge_means tray ≡ tray_in (stage_of self)) }
+        ensures { IfOk result (λ tray. tray_of tray ≡ tray_in (stage_of self)) }
     {
         match self {
             Stage::Naming(named) => named.load(heap),
@@ -72,7 +68,8 @@ impl Stage {
         order: Order,
         text: &mut String,
     ) -> Result<Stage, LineStop>
-        ensures { CameBy result (string_bytes text.old) (string_bytes text.new) (called number (order_asks order) (stage_of self)) }
+        ensures { CameBy result text.old text.new
+            (called number (order_asks order) (stage_of self)) }
     {
         let tray = self.into_tray(heap)?;
         call_tray(tray, number, order, text)
@@ -86,7 +83,7 @@ impl Stage {
         line: &[u8],
         text: &mut String,
     ) -> Result<Stage, LineStop>
-        ensures { CameBy result (string_bytes text.old) (string_bytes text.new) (line_does number line.now (stage_of self)) }
+        ensures { CameBy result text.old text.new (line_does number line.now (stage_of self)) }
     {
         match read_line(line)? {
             Line::Tag(kind, draw) => self.name_tag(kind, draw),
@@ -103,7 +100,8 @@ fn call_tray(
     order: Order,
     text: &mut String,
 ) -> Result<Stage, LineStop>
-    ensures { CameBy result (string_bytes text.old) (string_bytes text.new) (called_on number (step pump_acts gauge_acts (order_asks order) (model_of pump_means gauge_means tray) empty_buffer empty_list)) }
+    ensures { CameBy result text.old text.new
+        (called number (order_asks order) (Calling (tray_of tray))) }
 {
     let mut buffer = [0u8; 16];
     let mut list = [[0u8; 4]; 128];

@@ -16,7 +16,8 @@ pub(crate) enum LineStop {
     Memory(AllocError),
 }
 
-// Written out, as those of LineFault: a derived `From` has no `from_gives`, which the clauses of callers read.
+// Written out, as those of LineFault: a derived `From` has no `from_gives`, which the clauses of
+// callers read.
 impl From<LineFault> for LineStop {
     ghost from_gives = { λ e r. r ≡ line.Fault e };
 
@@ -63,7 +64,8 @@ pub enum SheetFault {
 }
 
 impl SheetFault {
-    // The line that the run stopped at, from 1; 0 for the sheet as a whole, as it is printed, so it is no Option.
+    // The line that the run stopped at, from 1; 0 for the sheet as a whole, as it is printed, so it
+    // is no Option.
     pub fn line(self) -> usize
         ensures { result ≡ (refused_by self).line }
     {

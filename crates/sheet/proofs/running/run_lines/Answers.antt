@@ -25,25 +25,22 @@ returns-in_err-stage c =
     let s = c.in-Some.ensures.steps in
     let cut = cut_by _ _ _ _ s.0 (answers_always _ _ _ (λ f a r g h. search rules)) in
     let n : ℕ = c.in-Some.i + 1 in
-    let old : List ℕ = string_bytes c.loop-i.text in
     let rest : List (List ℕ) = parted 10 c.next.new.self.iter.rest.now in
     let line : List ℕ = c.in_ok-line.line.now in
     let p = err_from_is_err_and c.from_residual-in_err-stage.result c.from_residual-in_err-stage.ensures.1 in
     let line_ends = rw c.in_ok-line.ensures.ok_part at c.ended.ensures in
     rw (p.1, p.2)
-    (line_stopped _ n (λ e s q. search rules) c.do_line.result c.map_err.result old (string_bytes c.do_line.new.text) (line_does n line (stage_of c.loop-i.stage)) (onward n rest) _ _ c.map_err.ensures.cases c.do_line.ensures c.in_err-stage.was
-    (run_goes old (stage_of c.loop-i.stage) _ _ _ _ _ _ s.1 cut c.loop-i.invariant line line_ends))
+    (line_stopped _ n (λ e s q. search rules) c.do_line.result c.map_err.result c.loop-i.text c.do_line.new.text (line_does n line (stage_of c.loop-i.stage)) (onward n rest) _ _ c.map_err.ensures.cases c.do_line.ensures c.in_err-stage.was
+    (run_goes (string_bytes c.loop-i.text) (stage_of c.loop-i.stage) _ _ _ _ _ _ s.1 cut c.loop-i.invariant line line_ends))
 
 pub loop-i-preserved : goal.loop-i-preserved
 loop-i-preserved c =
     let s = c.in-Some.ensures.steps in
     let cut = cut_by _ _ _ _ s.0 (answers_always _ _ _ (λ f a r g h. search rules)) in
     let n : ℕ = c.in-Some.i + 1 in
-    let old : List ℕ = string_bytes c.loop-i.text in
-    let new : List ℕ = string_bytes c.do_line.new.text in
     let rest : List (List ℕ) = parted 10 c.next.new.self.iter.rest.now in
     let line : List ℕ = c.in_ok-line.line.now in
     let line_ends = rw c.in_ok-line.ensures.ok_part at c.ended.ensures in
-    ap (λ (k : ℕ). before new (lines_run (k + 1) (stage_of c.in_ok-stage.stage) rest)) (s.2 ∙ ap (λ (k : ℕ). k + 1) (sym s.1))
-    ∙ line_went _ n (λ e s q. search rules) c.do_line.result c.map_err.result old new (line_does n line (stage_of c.loop-i.stage)) c.in_ok-stage.stage rest c.map_err.ensures.cases c.do_line.ensures c.in_ok-stage.was
-    ∙ run_goes old (stage_of c.loop-i.stage) _ _ _ _ _ _ s.1 cut c.loop-i.invariant line line_ends
+    ap (λ (k : ℕ). before (string_bytes c.do_line.new.text) (lines_run (k + 1) (stage_of c.in_ok-stage.stage) rest)) (s.2 ∙ ap (λ (k : ℕ). k + 1) (sym s.1))
+    ∙ line_went _ n (λ e s q. search rules) c.do_line.result c.map_err.result c.loop-i.text c.do_line.new.text (line_does n line (stage_of c.loop-i.stage)) c.in_ok-stage.stage rest c.map_err.ensures.cases c.do_line.ensures c.in_ok-stage.was
+    ∙ run_goes (string_bytes c.loop-i.text) (stage_of c.loop-i.stage) _ _ _ _ _ _ s.1 cut c.loop-i.invariant line line_ends
