@@ -13,7 +13,7 @@ use Rattle.tray_core.specs.Trays.{Model, present}
 use Rattle.tray_core.proofs.HiddenPart.{hiding}
 use Rattle.tray_core.proofs.Places.{Rowed, front_rowed, back_rowed}
 use Rattle.handling.specs.Laws.{PumpRow, Loaded, PumpLaw, Law, past_end, place, pump, front_row, back_row}
-use Rattle.handling.proofs.Keeping.{Sound, stays, kept}
+use Rattle.handling.proofs.Keeping.{Holds, stays, kept}
 use Rattle.handling.proofs.Unchecked.{in_run}
 
 all_here : {S H : Type 0} (tags : List (Meaning S H)) → All (λ (p : Post S H). p.here ≡ true) (map present tags)
@@ -22,8 +22,8 @@ all_here tags = All-map (λ p. p.here ≡ true) present tags (λ k d below. refl
 module _ {SF HF SB HB : Type 0} (F : Behaviour SF HF) (B : Behaviour SB HB) (row : Model SF HF SB HB → PumpRow) (named : ℕ → Which)
     (number : ℕ → ℕ) (rowed : Rowed F B pump_acts row number) where
   -- a tag of a loaded tray is good, and off
-  sound_made : (t : Model SF HF SB HB) → Loaded row t → (n : ℕ) → n < length (row t) → Sound F B row named number rowed n t
-  sound_made t loaded n below =
+  holds_made : (t : Model SF HF SB HB) → Loaded row t → (n : ℕ) → n < length (row t) → Holds F B row named number rowed n t
+  holds_made t loaded n below =
       let this : get_or (row t) n past_end ≡ place row n t = sym (unwrap_or-slice_get (row t) n past_end) in
       let made : JustMade (pump row n t) = subst (λ (p : Post _ _). JustMade p.tag) this (All-get_or (λ p. JustMade p.tag) (row t) n past_end below loaded.made) in
       record {
@@ -36,8 +36,8 @@ module _ {SF HF SB HB : Type 0} (F : Behaviour SF HF) (B : Behaviour SB HB) (row
   lawful_row : ((n : ℕ) (frame : List ℕ) (t : Model SF HF SB HB) → accepts F B (named n) frame t ≡ (t.field && place_accepts pump_acts frame (slice_get (row t) n))) → PumpLaw F B row named
   lawful_row accepting =
       record {
-        stays = λ t loaded n below cs. stays F B row named number rowed n t (sound_made t loaded n below) cs;
-        kept = λ t loaded n below cs more. kept F B row named number rowed n t (sound_made t loaded n below) cs more;
+        stays = λ t loaded n below cs. stays F B row named number rowed n t (holds_made t loaded n below) cs;
+        kept = λ t loaded n below cs more. kept F B row named number rowed n t (holds_made t loaded n below) cs more;
         unchecked = λ t n cs sent. in_run F B row named n (accepting n) t cs sent;
         loads = λ fs bs made. record { dark = refl; front = all_here fs; back = all_here bs; made = made };
       }

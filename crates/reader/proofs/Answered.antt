@@ -11,7 +11,7 @@ use Rattle.typeb.proofs.Sealed.{body_of_sealed}
 use Rattle.kinds.specs.Says.{Says, Answer, Page, Acknowledged, Refused, echo, page_named, said_body, reply_bytes}
 use Rattle.kinds.proofs.Lists.{listed}
 use Rattle.reader.specs.Commands.{Asked, in_range, heard_as}
-use Rattle.reader.specs.Judged.{judged, judged_answer, judged_byte, judged_data, judged_page, fits, reads, sound_body, then}
+use Rattle.reader.specs.Judged.{judged, judged_answer, judged_byte, judged_data, judged_page, fits, reads, sound_body, ◌>>=◌}
 use Rattle.reader.specs.Laws.{Answers, to_request, to_marker, to_attrib, to_halt, to_read, read_refused, to_write, write_refused}
 use Rattle.reader.specs.Laws.{to_lock, lock_refused, to_check, check_refused, to_deselect, to_count, count_refused}
 use Rattle.reader.proofs.Ranges.{own_page}
@@ -21,7 +21,7 @@ abbrev pub said : Asked → Says → List ℕ
 said a s = said_body (echo (heard_as a)) (page_named (heard_as a)) s
 
 -- a sealed body of a length that fits is judged as the body reads
-judged_by : (fit : Bool) (body : List ℕ) (next : List ℕ → Result Says ℕ) → 1 ≤ length body → fit ≡ true → then (sound_body fit (sealed body)) next ≡ next body
+judged_by : (fit : Bool) (body : List ℕ) (next : List ℕ → Result Says ℕ) → 1 ≤ length body → fit ≡ true → (sound_body fit (sealed body) >>= next) ≡ next body
 judged_by fit body next some right = simp (right, sealed_sound body some, body_of_sealed body) refl
 
 pub judged_sealed : (a : Asked) (body : List ℕ) → 1 ≤ length body → fits a (length body + 2) ≡ true → judged a (sealed body) ≡ reads a body

@@ -1,4 +1,4 @@
-pub mod Bodies
+pub mod Made
 pub mod Makes
 pub mod Answered
 pub mod Judges

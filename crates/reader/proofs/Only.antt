@@ -15,7 +15,7 @@ use Rattle.kinds.specs.Says.{Says, Answer, Card, Page, Acknowledged, Refused, ec
 use Rattle.kinds.proofs.Lists.{listed}
 use Rattle.reader.specs.Commands.{Asked, Request, SlotMarker, Attrib, Halt, Read, Write, Lock, CheckPassword, Deselect, Count}
 use Rattle.reader.specs.Commands.{in_range, heard_as}
-use Rattle.reader.specs.Judged.{judged, judged_answer, judged_byte, judged_data, judged_page, judged_status, fits, reads, sound_body, then}
+use Rattle.reader.specs.Judged.{judged, judged_answer, judged_byte, judged_data, judged_page, judged_status, fits, reads, sound_body, ◌>>=◌}
 use Rattle.reader.specs.Laws.{JudgesOnly, Brings, Answers, to_request, to_marker, to_attrib, to_halt, to_read, read_refused, to_write, write_refused}
 use Rattle.reader.specs.Laws.{to_lock, lock_refused, to_check, check_refused, to_deselect, to_count, count_refused}
 use Rattle.reader.proofs.Ranges.{own_page}
@@ -26,7 +26,7 @@ passed : {A : Type 0} (t : Bool) (why : ℕ) (go : Result A ℕ) (x : A) → ask
 passed true why go x e = (refl, e)
 passed false why go x e = absurd cc
 
-both_passed : (f s : Bool) (body : List ℕ) (next : List ℕ → Result Says ℕ) (x : Says) → then (asked f 9 (asked s 10 (Ok body))) next ≡ Ok x
+both_passed : (f s : Bool) (body : List ℕ) (next : List ℕ → Result Says ℕ) (x : Says) → (asked f 9 (asked s 10 (Ok body)) >>= next) ≡ Ok x
     → (f ≡ true) × (s ≡ true) × (next body ≡ Ok x)
 both_passed true true body next x e = (refl, refl, e)
 both_passed true false body next x e = absurd cc
@@ -52,7 +52,7 @@ some_said (CheckPassword cid password) n t = (Acknowledged, to_check, eqb-true n
 some_said (Deselect cid) n t = (Acknowledged, to_deselect, eqb-true n 4 t)
 some_said (Count cid signature) n t = (Acknowledged, to_count, eqb-true n 4 t)
 
-misfit : (f : Bool) (bytes : List ℕ) (next : List ℕ → Result Says ℕ) → (f ≡ true → ⊥) → then (sound_body f bytes) next ≡ Err 9
+misfit : (f : Bool) (bytes : List ℕ) (next : List ℕ → Result Says ℕ) → (f ≡ true → ⊥) → (sound_body f bytes >>= next) ≡ Err 9
 misfit true bytes next not = absurd (not refl)
 misfit false bytes next not = refl
 
@@ -63,10 +63,10 @@ wrong_length a bytes none =
 
 -- at the length of something said only the check bytes count, and then the body
 at_length : (a : Asked) (bytes : List ℕ) (s : Says) (ok : Bool) → Answers a s → length bytes ≡ length (reply_bytes (heard_as a) (Some s)) → sound bytes ≡ ok
-    → judged a bytes ≡ then (asked ok 10 (Ok (body_of bytes))) (reads a)
+    → judged a bytes ≡ (asked ok 10 (Ok (body_of bytes)) >>= reads a)
 at_length a bytes s ok answers long is =
     let fit : fits a (length bytes) ≡ true = ap (fits a) (long ∙ length_sealed (said a s)) ∙ (fit_said answers).1 in
-    ap (λ f. then (sound_body f bytes) (reads a)) fit ∙ ap (λ t. then (asked t 10 (Ok (body_of bytes))) (reads a)) is
+    ap (λ f. sound_body f bytes >>= reads a) fit ∙ ap (λ t. asked t 10 (Ok (body_of bytes)) >>= reads a) is
 
 -- what is sound, of a length that fits, and not read, is refused by 11
 not_data : (head : ℕ) (may_ack may_nack : Bool) (body : List ℕ) (why : ℕ) → judged_data head may_ack may_nack body ≡ Err why → why ≡ 11

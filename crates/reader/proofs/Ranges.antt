@@ -1,14 +1,14 @@
 -- What a tag hears of a command: its values, and zero for the rest. And which values are in range.
-use Rattle.std.proofs.Common.{◌≡◌, ℕ, ◌%◌, ◌<◌, Bool, true, ◌&&◌, leb, [], ◌∷◌, length, get_or, replicate, refl, ap, arith}
+use Rattle.std.proofs.Common.{◌≡◌, ℕ, ◌%◌, ◌<◌, Bool, true, ◌&&◌, leb, [], ◌∷◌, length, get_or, replicate, is_some, unwrap_or, refl, ap, arith}
 use Rattle.std.proofs.lemmas.List.{drop_at, take_at}
 use Rattle.std.proofs.lemmas.Bool.{and_parts, leb-true}
 use Rattle.std.proofs.lemmas.Bool.Decides.{nat_tests}
 use Rattle.typeb.specs.declared.frames.Slots.{Slots}
 use Rattle.typeb.specs.declared.frames.Slots.TheVariants.{One, Two, Four, Eight, Sixteen}
 use Rattle.typeb.specs.Hears as hears
-use Rattle.typeb.specs.Hears.{slot_count}
+use Rattle.typeb.specs.Hears.{slot_count, slots_for}
 use Rattle.reader.specs.Commands.{Asked, Request, SlotMarker, Attrib, Halt, Read, Write, Lock, CheckPassword, Deselect, Count}
-use Rattle.reader.specs.Commands.{in_range, frame_for, heard_as, is_slots, slots_for}
+use Rattle.reader.specs.Commands.{in_range, frame_for, heard_as}
 use Rattle.reader.specs.Laws.{Sized, IdleIsZero, idle, NamesAll, heeded, named}
 
 idle_zero : (a : Asked) → Sized a → idle (heard_as a) ≡ replicate (length (idle (heard_as a))) 0
@@ -34,7 +34,7 @@ pub own_page : (cid page : ℕ) → (leb cid 15 && leb page 31) ≡ true → pag
 own_page cid page ok = let low = leb-true page 31 (and_parts (leb cid 15) (leb page 31) ok).1 in omega arith
 
 -- a number of slots in range is the number of the slots announced
-own_slots : (slots : ℕ) → is_slots slots ≡ true → slot_count (slots_for slots) ≡ slots
+own_slots : (slots : ℕ) → is_some (slots_for slots) ≡ true → slot_count (unwrap_or (slots_for slots) One) ≡ slots
 own_slots slots ok = grind (arith, nat_tests)
 
 values_heard : (a : Asked) → Sized a → in_range a ≡ true → heeded (heard_as a) ≡ named a

@@ -1,12 +1,12 @@
 -- The commands of a reader, and the frames that carry them.
-use Rattle.std.specs.Prelude.{ℕ, ◌+◌, ◌-◌, ◌*◌, Bool, true, cond, ◌&&◌, ◌||◌, List, [], ◌∷◌, ◌++◌, length, drop, replicate, Ok, Err, Result, ◌==◌, nat_le}
+use Rattle.std.specs.Prelude.{ℕ, Bool, true, is_some, unwrap_or, ◌&&◌, List, [], ◌∷◌, ◌++◌, length, drop, replicate, Ok, Result, if◌then◌else◌, nat_le}
 use Rattle.refusals.specs.Numbers.{asked}
 use Rattle.typeb.specs.CheckBytes.{sealed}
-use Rattle.typeb.specs.declared.frames.Slots.{Slots}
-use Rattle.typeb.specs.declared.frames.Slots.TheVariants.{One, Two, Four, Eight, Sixteen}
+use Rattle.typeb.specs.declared.frames.Slots.TheVariants.{One}
 use Rattle.typeb.specs.declared.frames.Op.TheVariants as op
 use Rattle.typeb.specs.Hears as hears
-use Rattle.typeb.specs.Hears.{Heard, head_of, heard}
+use Rattle.typeb.specs.Hears.{Heard, slots_for}
+use Rattle.typeb.specs.Carries.{format}
 use Rattle.reader.specs.declared.commands.Command.{Command}
 use Rattle.reader.specs.declared.commands.Command.TheVariants as command
 
@@ -43,13 +43,9 @@ asked_of (command.CheckPassword cid password) = CheckPassword cid password
 asked_of (command.Deselect cid) = Deselect cid
 asked_of (command.Count cid signature) = Count cid signature
 
--- A number of slots is one of five.
-abbrev pub is_slots : ℕ → Bool
-is_slots n = n == 1 || (n == 2 || (n == 4 || (n == 8 || n == 16)))
-
--- Card number to 15, page to 31, slot 2 to 16, number of slots one of five, INF to 5 bytes.
+-- Number of slots one of five, slot 2 to 16, card number to 15, page to 31, INF to 5 bytes.
 abbrev pub in_range : Asked → Bool
-in_range (Request wake_up family slots) = is_slots slots
+in_range (Request wake_up family slots) = is_some (slots_for slots)
 in_range (SlotMarker slot) = nat_le 2 slot && nat_le slot 16
 in_range (Attrib serial cid inf) = nat_le cid 15 && nat_le (length inf) 5
 in_range (Halt serial) = true
@@ -60,25 +56,35 @@ in_range (CheckPassword cid password) = nat_le cid 15
 in_range (Deselect cid) = nat_le cid 15
 in_range (Count cid signature) = nat_le cid 15
 
--- The code of a number of slots in PARAM.
-abbrev pub slot_code : ℕ → ℕ
-slot_code n = cond (n == 1) 0 (cond (n == 2) 1 (cond (n == 4) 2 (cond (n == 8) 3 4)))
+-- What a tag hears in the frame of a command. What the command's values do not name is zero.
+-- (A number of slots that is out of range has code 0.)
+abbrev pub heard_as : Asked → Heard
+heard_as (Request wake_up family slots) =
+    hears.Request family wake_up (unwrap_or (slots_for slots) One)
+heard_as (SlotMarker slot) = hears.SlotMarker slot
+heard_as (Attrib serial cid inf) = hears.Attrib serial (0 ∷ 0 ∷ 0 ∷ cid ∷ []) inf
+heard_as (Halt serial) = hears.Halt serial
+heard_as (Read cid page) = hears.Command op.Read cid page (replicate 8 0)
+heard_as (Write cid page bytes) = hears.Command op.Write cid page bytes
+heard_as (Lock cid locks) = hears.Command op.Lock cid 0 (replicate 4 0 ++ locks)
+heard_as (CheckPassword cid password) = hears.Command op.CheckPassword cid 0 password
+heard_as (Deselect cid) = hears.Command op.Deselect cid 0 (replicate 8 0)
+heard_as (Count cid signature) = hears.Command op.Count cid 0 (signature ++ replicate 2 0)
 
--- The frame of a command, without check bytes. What its values do not name is zero.
+-- The frame of a command, without and with its check bytes. Bits that may be any are zero.
 abbrev pub body_for : Asked → List ℕ
-body_for (Request wake_up family slots) = 0x05 ∷ family ∷ (slot_code slots + cond wake_up 8 0) ∷ []
-body_for (SlotMarker slot) = ((slot - 1) * 16 + 5) ∷ []
-body_for (Attrib serial cid inf) = 0x1D ∷ serial ++ (0 ∷ 0 ∷ 0 ∷ cid ∷ inf)
-body_for (Halt serial) = 0x50 ∷ serial
-body_for (Read cid page) = head_of op.Read cid ∷ page ∷ replicate 8 0
-body_for (Write cid page bytes) = head_of op.Write cid ∷ page ∷ bytes
-body_for (Lock cid locks) = head_of op.Lock cid ∷ 0 ∷ replicate 4 0 ++ locks
-body_for (CheckPassword cid password) = head_of op.CheckPassword cid ∷ 0 ∷ password
-body_for (Deselect cid) = head_of op.Deselect cid ∷ 0 ∷ replicate 8 0
-body_for (Count cid signature) = head_of op.Count cid ∷ 0 ∷ signature ++ (0 ∷ 0 ∷ [])
+body_for command = format 0 (heard_as command)
 
 abbrev pub frame_for : Asked → List ℕ
 frame_for command = sealed (body_for command)
+
+-- The eight data bytes of what is heard: zero where it has none.
+abbrev pub data_of : Heard → List ℕ
+data_of (hears.Request family wake_up slots) = replicate 8 0
+data_of (hears.SlotMarker slot) = replicate 8 0
+data_of (hears.Attrib serial params inf) = replicate 8 0
+data_of (hears.Halt serial) = replicate 8 0
+data_of (hears.Command op cid address bytes) = bytes
 
 -- Making a frame: a buffer of 16 bytes or more? Every value in range? Then the frame's length.
 abbrev pub made_for : Asked → List ℕ → Result ℕ ℕ
@@ -90,22 +96,6 @@ made_for command buffer =
 -- The buffer then: the frame in front, every other byte as it was. A refusal leaves it as it was.
 abbrev pub buffer_for : Asked → List ℕ → List ℕ
 buffer_for command buffer =
-    cond (nat_le 16 (length buffer) && in_range command)
-    (frame_for command ++ drop (length (frame_for command)) buffer)
-    buffer
-
--- What a tag hears in the frame of a command.
-abbrev pub slots_for : ℕ → Slots
-slots_for n = cond (n == 1) One (cond (n == 2) Two (cond (n == 4) Four (cond (n == 8) Eight Sixteen)))
-
-abbrev pub heard_as : Asked → Heard
-heard_as (Request wake_up family slots) = hears.Request family wake_up (slots_for slots)
-heard_as (SlotMarker slot) = hears.SlotMarker slot
-heard_as (Attrib serial cid inf) = hears.Attrib serial (0 ∷ 0 ∷ 0 ∷ cid ∷ []) inf
-heard_as (Halt serial) = hears.Halt serial
-heard_as (Read cid page) = hears.Command op.Read cid page (replicate 8 0)
-heard_as (Write cid page bytes) = hears.Command op.Write cid page bytes
-heard_as (Lock cid locks) = hears.Command op.Lock cid 0 (replicate 4 0 ++ locks)
-heard_as (CheckPassword cid password) = hears.Command op.CheckPassword cid 0 password
-heard_as (Deselect cid) = hears.Command op.Deselect cid 0 (replicate 8 0)
-heard_as (Count cid signature) = hears.Command op.Count cid 0 (signature ++ (0 ∷ 0 ∷ []))
+    if nat_le 16 (length buffer) && in_range command then
+    frame_for command ++ drop (length (frame_for command)) buffer
+    else buffer

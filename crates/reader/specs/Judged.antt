@@ -1,5 +1,5 @@
 -- What a reply says, judged by the command that it answers.
-use Rattle.std.specs.Prelude.{ℕ, ◌%◌, Bool, true, false, cond, ◌&&◌, ◌||◌, List, length, take, drop, Ok, Err, Result, ◌==◌, slice_index}
+use Rattle.std.specs.Prelude.{ℕ, ◌%◌, Bool, true, false, ◌&&◌, ◌||◌, List, length, take, drop, Ok, Err, Result, if◌then◌else◌, ◌==◌, slice_index}
 use Rattle.std.specs.Borrow.{Bor}
 use Rattle.refusals.specs.declared.Refusal.{Refusal}
 use Rattle.refusals.specs.Numbers.{outcome, asked}
@@ -19,9 +19,10 @@ sound_body fits bytes = asked fits 9 (asked (sound bytes) 10 (Ok (body_of bytes)
 abbrev pub body_in : Result (Bor (List ℕ)) Refusal → Result (List ℕ) ℕ
 body_in r = outcome (λ body. body.now) r
 
-abbrev pub then : {A B : Type 0} → Result A ℕ → (A → Result B ℕ) → Result B ℕ
-then (Ok a) next = next a
-then (Err why) next = Err why
+infixl 10 ◌>>=◌
+abbrev pub ◌>>=◌ : {A B : Type 0} → Result A ℕ → (A → Result B ℕ) → Result B ℕ
+Ok a >>= next = next a
+Err why >>= next = Err why
 
 -- The answer to a request: 0x50, serial number, application data, protocol info.
 abbrev pub judged_answer : List ℕ → Result Says ℕ
@@ -36,19 +37,22 @@ judged_byte byte says body = asked (slice_index body 0 == byte) 11 (Ok says)
 -- The second byte's low nibble is 0 for done and 1 for not done; the high nibble counts only in a refusal's code.
 abbrev pub judged_status : Bool → Bool → ℕ → Result Says ℕ
 judged_status may_ack may_nack status =
-    cond (may_ack && status % 16 == 0) (Ok Acknowledged)
-    (cond (may_nack && status % 16 == 1) (Ok (Refused status)) (Err 11))
+    if may_ack && status % 16 == 0 then Ok Acknowledged
+    else if may_nack && status % 16 == 1 then Ok (Refused status)
+    else Err 11
 
 -- A data command's reply begins with the command's own first byte.
 abbrev pub judged_data : ℕ → Bool → Bool → List ℕ → Result Says ℕ
-judged_data head may_ack may_nack body = asked (slice_index body 0 == head) 11 (judged_status may_ack may_nack (slice_index body 1))
+judged_data head may_ack may_nack body =
+    asked (slice_index body 0 == head) 11
+    (judged_status may_ack may_nack (slice_index body 1))
 
 -- READ brings a page behind its number, or a refusal.
 abbrev pub judged_page : ℕ → ℕ → List ℕ → Result Says ℕ
 judged_page head page body =
-    cond (length body == 10)
-    (asked (slice_index body 0 == head && slice_index body 1 == page) 11 (Ok (Page (drop 2 body))))
-    (judged_data head false true body)
+    if length body == 10 then
+        asked (slice_index body 0 == head && slice_index body 1 == page) 11 (Ok (Page (drop 2 body)))
+    else judged_data head false true body
 
 -- The lengths that a command can bring.
 abbrev pub fits : Asked → ℕ → Bool
@@ -77,13 +81,15 @@ reads (Deselect cid) = judged_data (head_of op.Deselect cid) true false
 reads (Count cid signature) = judged_data (head_of op.Count cid) true true
 
 abbrev pub judged : Asked → List ℕ → Result Says ℕ
-judged command bytes = then (sound_body (fits command (length bytes)) bytes) (reads command)
+judged command bytes = do
+    body ← sound_body (fits command (length bytes)) bytes
+    reads command body
 
--- What a value of the code stands for.
+-- What a value of the code stands for, with the page that it points to.
 abbrev pub said_in : Reply → Says
 said_in (reply.Answer serial application protocol) = Answer serial application protocol
 said_in (reply.Card cid) = Card cid
-said_in (reply.Page bytes) = Page bytes
+said_in (reply.Page bytes) = Page bytes.now
 said_in reply.Acknowledged = Acknowledged
 said_in (reply.Refused code) = Refused code
 

@@ -1,8 +1,13 @@
 // The commands of a reader, by their values.
 ghost use Rattle.std.specs.Prelude.{◌≡◌};
+ghost use Rattle.typeb.specs.Hears as hears;
+ghost use Rattle.typeb.specs.Hears.{frame_of};
 ghost use Rattle.reader.specs.Commands.{Request, SlotMarker, Attrib, Halt, Read, Write, Lock, CheckPassword, Deselect, Count, asked_of};
+ghost use Rattle.reader.specs.Commands.{in_range, heard_as, data_of};
+ghost use Rattle.reader.specs.Judged.{fits};
+ghost use Rattle.reader.specs.Laws.{Sized};
 
-use typeb::frames::Serial;
+use typeb::frames::{Frame, Op, Serial, Slots};
 
 #[derive(Clone, Copy)]
 pub enum Command<'a> {
@@ -118,5 +123,102 @@ impl<'a> Command<'a> {
         ensures { asked_of result ≡ Count cid signature }
     {
         Command::Count { cid, signature }
+    }
+
+    // Every value of the command can stand in its frame.
+    pub(crate) fn in_range(self) -> bool
+        ensures { result ≡ in_range (asked_of self.entry) }
+    {
+        match self {
+            Command::Request { slots, .. } => Slots::from_count(slots).is_some(),
+            Command::SlotMarker { slot } => (2..=16).contains(&slot),
+            Command::Attrib { cid, inf, .. } => cid <= 15 && inf.len() <= 5,
+            Command::Halt { .. } => true,
+            Command::Read { cid, page } | Command::Write { cid, page, .. } => {
+                cid <= 15 && page <= 31
+            }
+            Command::Lock { cid, .. }
+            | Command::CheckPassword { cid, .. }
+            | Command::Deselect { cid }
+            | Command::Count { cid, .. } => cid <= 15,
+        }
+    }
+
+    // The eight data bytes of a data command. Those that it does not name are zero.
+    pub(crate) fn data_bytes(self) -> [u8; 8]
+        ensures { result ≡ data_of (heard_as (asked_of self.entry)) }
+    {
+        match self {
+            Command::Write { bytes, .. } => bytes,
+            Command::Lock { locks, .. } => {
+                let [l0, l1, l2, l3] = locks;
+                [0, 0, 0, 0, l0, l1, l2, l3]
+            }
+            Command::CheckPassword { password, .. } => password,
+            Command::Count { signature, .. } => {
+                let [s0, s1, s2, s3, s4, s5] = signature;
+                [s0, s1, s2, s3, s4, s5, 0, 0]
+            }
+            _ => [0; 8],
+        }
+    }
+
+    // The frame that carries the command, with its data bytes. Fields have the lengths of their types.
+    pub(crate) fn frame(self, bytes: &'a [u8; 8]) -> Frame<'a>
+        requires { bytes.now ≡ data_of (heard_as (asked_of self)) }
+        ensures heard { frame_of result ≡ heard_as (asked_of self.entry) }
+        ensures sized { Sized (asked_of self.entry) }
+    {
+        match self {
+            Command::Request {
+                wake_up,
+                family,
+                slots,
+            } => Frame::Request {
+                family,
+                wake_up,
+                slots: Slots::from_count(slots).unwrap_or(Slots::One),
+            },
+            Command::SlotMarker { slot } => Frame::SlotMarker { slot },
+            Command::Attrib { serial, cid, inf } => Frame::Attrib {
+                serial,
+                params: [0, 0, 0, cid],
+                inf,
+            },
+            Command::Halt { serial } => Frame::Halt { serial },
+            Command::Read { cid, page } => data_command(Op::Read, cid, page, bytes),
+            Command::Write { cid, page, .. } => data_command(Op::Write, cid, page, bytes),
+            Command::Lock { cid, .. } => data_command(Op::Lock, cid, 0, bytes),
+            Command::CheckPassword { cid, .. } => data_command(Op::CheckPassword, cid, 0, bytes),
+            Command::Deselect { cid } => data_command(Op::Deselect, cid, 0, bytes),
+            Command::Count { cid, .. } => data_command(Op::Count, cid, 0, bytes),
+        }
+    }
+
+    // The lengths that a reply to the command can have.
+    pub(crate) fn fits(self, len: usize) -> bool
+        ensures { result ≡ fits (asked_of self.entry) len }
+    {
+        match self {
+            Command::Request { .. } | Command::SlotMarker { .. } => len == 14,
+            Command::Attrib { .. } | Command::Halt { .. } => len == 3,
+            Command::Read { .. } => matches!(len, 12 | 4),
+            Command::Write { .. }
+            | Command::Lock { .. }
+            | Command::CheckPassword { .. }
+            | Command::Deselect { .. }
+            | Command::Count { .. } => len == 4,
+        }
+    }
+}
+
+fn data_command<'a>(op: Op, cid: u8, address: u8, bytes: &'a [u8; 8]) -> Frame<'a>
+    ensures { frame_of result ≡ hears.Command op cid address bytes.now }
+{
+    Frame::Command {
+        op,
+        cid,
+        address,
+        bytes,
     }
 }

@@ -1,7 +1,7 @@
 // Judging a reply by the command that it answers: its length, its check bytes, then its body, by the kind of reply.
 ghost use Rattle.std.specs.Prelude.{◌≡◌, true, ◌||◌, length, ◌==◌};
 ghost use Rattle.reader.specs.Commands.{asked_of};
-ghost use Rattle.reader.specs.Judged.{sound_body, body_in, judged_answer, judged_byte, judged_status, judged_data, judged_page, fits, judged, said_in, judgement};
+ghost use Rattle.reader.specs.Judged.{sound_body, body_in, judged_answer, judged_byte, judged_status, judged_data, judged_page, judged, said_in, judgement};
 ghost use Rattle.reader.specs.Laws.{JudgesExactly, JudgesOnly};
 
 use crate::commands::Command;
@@ -25,26 +25,10 @@ fn sound_body(fits: bool, reply: &[u8]) -> Result<&[u8], Refusal>
     }
 }
 
-// The lengths that a command can bring.
-fn fits(command: Command<'_>, len: usize) -> bool
-    ensures { result ≡ fits (asked_of command.entry) len }
-{
-    match command {
-        Command::Request { .. } | Command::SlotMarker { .. } => len == 14,
-        Command::Attrib { .. } | Command::Halt { .. } => len == 3,
-        Command::Read { .. } => matches!(len, 12 | 4),
-        Command::Write { .. }
-        | Command::Lock { .. }
-        | Command::CheckPassword { .. }
-        | Command::Deselect { .. }
-        | Command::Count { .. } => len == 4,
-    }
-}
-
 // A body comes to the four readers below in a length that its command can bring, less the two check bytes.
 
 // The answer to a request. One slice pattern takes it apart, as it does every frame here.
-fn read_answer(body: &[u8]) -> Result<Reply, Refusal>
+fn read_answer(body: &[u8]) -> Result<Reply<'_>, Refusal>
     requires { length body.now ≡ 12 }
     ensures { judgement result ≡ judged_answer body.now }
 {
@@ -59,9 +43,9 @@ fn read_answer(body: &[u8]) -> Result<Reply, Refusal>
 }
 
 // One byte, which has to be this one, and what it then says.
-fn read_byte(byte: u8, says: Reply, body: &[u8]) -> Result<Reply, Refusal>
+fn read_byte<'a>(byte: u8, says: Reply<'a>, body: &[u8]) -> Result<Reply<'a>, Refusal>
     requires { length body.now ≡ 1 }
-    ensures { judgement result ≡ judged_byte byte (said_in says) body.now }
+    ensures { judgement result ≡ judged_byte byte (said_in says.entry) body.now }
 {
     match body {
         &[first] if first == byte => Ok(says),
@@ -72,7 +56,7 @@ fn read_byte(byte: u8, says: Reply, body: &[u8]) -> Result<Reply, Refusal>
 // A status byte: low nibble 0 for done, 1 for not done, as far as the command may bring it.
 // It takes two flags, and no enum: of their four cases three are used, and the definition asks for each of the two
 // answers apart, by one flag each.
-fn judge_status(may_ack: bool, may_nack: bool, status: u8) -> Result<Reply, Refusal>
+fn judge_status<'a>(may_ack: bool, may_nack: bool, status: u8) -> Result<Reply<'a>, Refusal>
     ensures { judgement result ≡ judged_status may_ack may_nack status }
 {
     match status % 16 {
@@ -83,7 +67,7 @@ fn judge_status(may_ack: bool, may_nack: bool, status: u8) -> Result<Reply, Refu
 }
 
 // The reply to a data command other than READ.
-fn read_data(head: u8, may_nack: bool, body: &[u8]) -> Result<Reply, Refusal>
+fn read_data(head: u8, may_nack: bool, body: &[u8]) -> Result<Reply<'_>, Refusal>
     requires { length body.now ≡ 2 }
     ensures { judgement result ≡ judged_data head true may_nack body.now }
 {
@@ -94,14 +78,14 @@ fn read_data(head: u8, may_nack: bool, body: &[u8]) -> Result<Reply, Refusal>
 }
 
 // The reply to READ: a page behind its number, or a refusal.
-fn read_page(head: u8, page: u8, body: &[u8]) -> Result<Reply, Refusal>
+fn read_page(head: u8, page: u8, body: &[u8]) -> Result<Reply<'_>, Refusal>
     requires { (length body.now == 10 || length body.now == 2) ≡ true }
     ensures { judgement result ≡ judged_page head page body.now }
 {
     match body {
         &[first, status] if first == head => judge_status(false, true, status),
         [first, number, bytes @ ..] if *first == head && *number == page => Ok(Reply::Page(
-            *bytes.first_chunk::<8>().unwrap(),
+            bytes.first_chunk::<8>().unwrap(),
         )),
         _ => Err(Refusal::ReplyUnexpected),
     }
@@ -110,12 +94,12 @@ fn read_page(head: u8, page: u8, body: &[u8]) -> Result<Reply, Refusal>
 // Judges a reply by the command that it answers.
 // Asked in this order: a length that this command can bring; right check bytes; first bytes as the command allows.
 #[tactic(auto, using(crate::proofs::Judges::judges_exactly, crate::proofs::Only::judges_only))]
-pub fn judge(command: Command<'_>, reply: &[u8]) -> Result<Reply, Refusal>
+pub fn judge<'a>(command: Command<'_>, reply: &'a [u8]) -> Result<Reply<'a>, Refusal>
     ensures result { judgement result ≡ judged (asked_of command.entry) reply.now }
     ensures exact { JudgesExactly }
     ensures only { JudgesOnly }
 {
-    let body = sound_body(fits(command, reply.len()), reply)?;
+    let body = sound_body(command.fits(reply.len()), reply)?;
     match command {
         Command::Request { .. } | Command::SlotMarker { .. } => read_answer(body),
         Command::Attrib { cid, .. } => read_byte(cid, Reply::Card(cid), body),

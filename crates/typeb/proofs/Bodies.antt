@@ -1,11 +1,15 @@
--- The two longest readings of a body, from what a slice pattern has tested.
-use Rattle.std.proofs.Common.{◌≡◌, ℕ, ◌-◌, ◌/◌, ◌%◌, ◌≤◌, true, false, eqb, leb, List, [], ◌∷◌, length, take, drop, Some, None, refl, ap, ◌∙◌, arith, length-drop, length-take}
+-- Bodies of frames, taken apart and put together.
+use Rattle.std.proofs.Common.{◌≡◌, ℕ, ◌+◌, ◌-◌, ◌/◌, ◌%◌, ◌≤◌, true, false, eqb, leb, List, [], ◌∷◌, ◌++◌, length, take, drop, replicate, Some, None, sym, refl, ap, ◌∙◌, ap₂, arith, length-drop, length-take}
+use borrow.Rule.Slice.PartMut.{put_mid}
 use Rattle.std.proofs.lemmas.List.{take_all, take_rest}
+use Rattle.std.proofs.lemmas.Slice.{take-put_mid}
 use Rattle.std.proofs.lemmas.Bool.{eq-eqb, ne_eqb, le-leb}
 use Rattle.typeb.specs.declared.frames.Op.{Op}
 use Rattle.typeb.specs.Hears.{Attrib, Command, in_body, op_of, at}
-use Rattle.typeb.proofs.Parts.{take_four}
+use Rattle.typeb.specs.Carries.{format}
+use Rattle.typeb.proofs.Parts.{listed, take_four}
 
+-- The two longest readings of a body, from what a slice pattern has tested.
 pub attrib_heard : (b : List ℕ) → 9 ≤ length b → length (take (length b - 9) (drop 9 b)) ≤ 5 → at 0 b ≡ 0x1D
     → Some (Attrib (at 1 b ∷ at 2 b ∷ at 3 b ∷ at 4 b ∷ []) (at 5 b ∷ at 6 b ∷ at 7 b ∷ at 8 b ∷ []) (take (length b - 9) (drop 9 b))) ≡ in_body b
 attrib_heard b low short first =
@@ -35,3 +39,13 @@ command_heard b bytes op two eight same known =
     let t14 : leb (length b) 14 ≡ true = le-leb _ _ (omega arith) in
     let head : eqb (at 0 b) 0x1D ≡ false = ne_eqb _ _ not_attrib in
     simp (t3, t1, t5, t10, t9, t14, head, ← known, whole) refl
+
+-- The body of ATTRIB: INF copied into an array of 14 bytes, of which as many are taken as the frame has.
+pub attrib_cut : (s p inf copy : List ℕ) → length s ≡ 4 → length p ≡ 4 → copy ≡ inf
+    → take (9 + length inf) (put_mid 9 (9 + length inf - 9) (0x1D ∷ at 0 s ∷ at 1 s ∷ at 2 s ∷ at 3 s ∷ at 0 p ∷ at 1 p ∷ at 2 p ∷ at 3 p ∷ replicate 5 0) copy)
+    ≡ format 0 (Attrib s p inf)
+attrib_cut s p inf copy four_s four_p same =
+    let whole : List ℕ = 0x1D ∷ at 0 s ∷ at 1 s ∷ at 2 s ∷ at 3 s ∷ at 0 p ∷ at 1 p ∷ at 2 p ∷ at 3 p ∷ replicate 5 0 in
+    let front : take 9 whole ++ inf ≡ format 0 (Attrib s p inf) =
+    ap₂ (λ x y. format 0 (Attrib x y inf)) (sym (listed s 4 four_s)) (sym (listed p 4 four_p)) in
+    rw same (take-put_mid 9 (9 + length inf - 9) whole inf (9 + length inf) (omega arith) (omega arith) ∙ front)

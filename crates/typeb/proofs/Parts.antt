@@ -1,6 +1,12 @@
 -- Parts of a list, as slice patterns take them.
-use Rattle.std.proofs.Common.{◌≡◌, ℕ, ◌+◌, ◌-◌, ◌≤◌, List, [], ◌∷◌, length, get_or, take, drop, refl, ap, ◌∙◌, arith}
+use Rattle.std.proofs.Common.{◌≡◌, ℕ, ◌+◌, ◌-◌, ◌≤◌, List, [], ◌∷◌, map, length, get_or, take, drop, refl, ap, ◌∙◌, arith}
+use Rattle.std.specs.List.{range_with_len}
 use Rattle.std.proofs.lemmas.List.{drop_more, drop_all}
+use Rattle.std.proofs.lemmas.List.FromFn.{fill_by_all}
+
+-- a list of n elements is the list of its n elements
+pub listed : (xs : List ℕ) (n : ℕ) → length xs ≡ n → xs ≡ map (λ k. get_or xs k 0) (range_with_len 0 n)
+listed xs n e = fill_by_all (λ k. get_or xs k 0) xs n 0 e (λ k h. refl)
 
 -- four elements in the middle
 pub take_four : (k : ℕ) (xs : List ℕ) → k + 4 ≤ length xs → take 4 (drop k xs) ≡ get_or xs k 0 ∷ get_or xs (k + 1) 0 ∷ get_or xs (k + 1 + 1) 0 ∷ get_or xs (k + 1 + 1 + 1) 0 ∷ []

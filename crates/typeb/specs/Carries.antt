@@ -1,24 +1,50 @@
 -- Which frame carries what, from the sender's side: each frame as it is put together of its values.
-use Rattle.std.specs.Prelude.{◌≡◌, ℕ, ◌+◌, ◌-◌, ◌*◌, ◌^◌, ◌<◌, ◌≤◌, true, cond, List, [], ◌∷◌, ◌++◌, length, Some}
-use Rattle.typeb.specs.CheckBytes.{sound, body_of}
-use Rattle.typeb.specs.Hears.{Heard, Request, SlotMarker, Attrib, Halt, Command, slot_count, op_code, heard}
+use Rattle.std.specs.Prelude.{◌≡◌, ℕ, ◌+◌, ◌-◌, ◌*◌, ◌<◌, Bool, true, false, ◌&&◌, List, [], ◌∷◌, ◌++◌, length, Some, None, Option, if◌then◌else◌, ◌==◌, nat_le}
+use Rattle.typeb.specs.CheckBytes.{sealed, sound, body_of, SealedInto}
+use Rattle.typeb.specs.Hears.{Heard, Request, SlotMarker, Attrib, Halt, Command, slot_code, head_of, heard}
 
--- A body that carries what is heard.
-abbrev pub Carries : Heard → List ℕ → Type 0
--- 05, family code, PARAM: four bits that may be any, the bit of WUPB, and N as a power of two, 1 to 16
-Carries (Request family wake_up slots) body =
-    (any power : ℕ) × (power ≤ 4) × (2 ^ power ≡ slot_count slots) × (body ≡ 0x05 ∷ family ∷ (any * 16 + cond wake_up 8 0 + power) ∷ [])
--- the slot less one and 5, for the second slot and those behind it
-Carries (SlotMarker slot) body = (2 ≤ slot) × (body ≡ ((slot - 1) * 16 + 5) ∷ [])
--- 1D, serial number, PARAM1 to PARAM4, INF of 0 to 5 bytes
-Carries (Attrib serial params inf) body = (length serial ≡ 4) × (length params ≡ 4) × (length inf ≤ 5) × (body ≡ 0x1D ∷ serial ++ (params ++ inf))
+-- The format of each frame, without its check bytes. Four bits are free: bits 4 to 7 of a request's PARAM.
+abbrev pub format : ℕ → Heard → List ℕ
+-- 05, family code, PARAM: the free bits, the bit of WUPB, the code of the number of slots
+format free (Request family wake_up slots) =
+    0x05 ∷ family ∷ (free * 16 + (if wake_up then 8 else 0) + slot_code slots) ∷ []
+-- the slot less one in the high nibble, 5 in the low one
+format free (SlotMarker slot) = ((slot - 1) * 16 + 5) ∷ []
+-- 1D, serial number, PARAM1 to PARAM4, INF
+format free (Attrib serial params inf) = 0x1D ∷ serial ++ (params ++ inf)
 -- 50, serial number
-Carries (Halt serial) body = (length serial ≡ 4) × (body ≡ 0x50 ∷ serial)
+format free (Halt serial) = 0x50 ∷ serial
 -- command and card number, address byte, eight data bytes
-Carries (Command op cid address bytes) body = (cid < 16) × (length bytes ≡ 8) × (body ≡ (op_code op * 16 + cid) ∷ address ∷ bytes)
+format free (Command op cid address bytes) = head_of op cid ∷ address ∷ bytes
+
+-- The values have their places in the frame: slot 2 to 16, INF of 0 to 5 bytes, card number to 15.
+abbrev pub has_places : Heard → Bool
+has_places (Request family wake_up slots) = true
+has_places (SlotMarker slot) = nat_le 2 slot && nat_le slot 16
+has_places (Attrib serial params inf) =
+    length serial == 4 && (length params == 4 && nat_le (length inf) 5)
+has_places (Halt serial) = length serial == 4
+has_places (Command op cid address bytes) = nat_le cid 15 && length bytes == 8
+
+-- A body that carries what is heard: it has its format, with any four free bits.
+pub record Carries (h : Heard) (body : List ℕ) : Type 0 where
+  pub places : has_places h ≡ true
+  pub free : ℕ
+  pub four_bits : free < 16
+  pub same : body ≡ format free h
 
 -- What is heard in a frame is what it carries: nothing is heard that it does not carry, or in an unsound frame,
 -- and whatever a sound frame carries is heard.
 pub record HearsExactly (frame : List ℕ) : Type 0 where
   pub only : (h : Heard) → heard frame ≡ Some h → (sound frame ≡ true) × Carries h (body_of frame)
   pub all : (h : Heard) → sound frame ≡ true → Carries h (body_of frame) → heard frame ≡ Some h
+
+-- A frame written to the front of a lent buffer: its format, free bits zero, and its check bytes.
+-- Values that have no places in a frame are not written: no length, and the buffer as it was.
+pub record WrittenInto (h : Heard) (lent given : List ℕ) (len : Option ℕ) : Type 0 where
+  pub written : has_places h ≡ true → SealedInto (format 0 h) lent given len
+  pub misfit : has_places h ≡ false → (len ≡ None) × (given ≡ lent)
+
+-- What is written is heard.
+abbrev pub WrittenIsHeard : Heard → Type 0
+WrittenIsHeard h = has_places h ≡ true → heard (sealed (format 0 h)) ≡ Some h

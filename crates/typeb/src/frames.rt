@@ -1,6 +1,11 @@
 // The frames that a tag can hear, as values.
 ghost use Rattle.std.specs.Prelude.{◌≡◌};
-ghost use Rattle.typeb.specs.Hears.{slot_count, slots_of, op_code, op_of, head_of, Named};
+ghost use Rattle.typeb.specs.Hears.{slot_code, slot_count, slots_of, slots_for};
+ghost use Rattle.typeb.specs.Hears.{op_code, op_of, head_of, Named};
+ghost use Rattle.typeb.specs.Hears.{Request, SlotMarker, Attrib, Halt, Command};
+ghost use Rattle.typeb.specs.Carries.{WrittenInto};
+
+use crate::crc::seal_into;
 
 // A tag's serial number, the PUPI, in the order in which it is sent.
 pub type Serial = [u8; 4];
@@ -9,22 +14,45 @@ pub type Serial = [u8; 4];
 #[derive(Clone, Copy, PartialEq, Eq, Debug)]
 pub struct UnknownCode(pub u8);
 
-// How many slots a request announces.
+// How many slots a request announces, in the order of the codes by which it does.
 #[derive(Clone, Copy, PartialEq, Eq, Debug)]
 pub enum Slots {
-    One = 1,
-    Two = 2,
-    Four = 4,
-    Eight = 8,
-    Sixteen = 16,
+    One,
+    Two,
+    Four,
+    Eight,
+    Sixteen,
 }
 
 impl Slots {
+    // Each at its code.
+    const ALL: [Slots; 5] = [
+        Slots::One,
+        Slots::Two,
+        Slots::Four,
+        Slots::Eight,
+        Slots::Sixteen,
+    ];
+
+    // The code of three bits.
+    pub fn code(self) -> u8
+        ensures { result ≡ slot_code self }
+    {
+        self as u8
+    }
+
     // The number of slots, N.
     pub fn count(self) -> u8
         ensures { result ≡ slot_count self }
     {
-        self as u8
+        1 << self.code()
+    }
+
+    // The slots that are N; none for a number that no request announces.
+    pub fn from_count(n: u8) -> Option<Slots>
+        ensures { result ≡ slots_for n }
+    {
+        Slots::ALL.iter().find(|slots| slots.count() == n).copied()
     }
 }
 
@@ -35,14 +63,10 @@ impl TryFrom<u8> for Slots {
     ghost try_from_gives = { λ code got. Named (slots_of code) code got };
 
     fn try_from(code: u8) -> Result<Slots, UnknownCode> {
-        match code {
-            0 => Ok(Slots::One),
-            1 => Ok(Slots::Two),
-            2 => Ok(Slots::Four),
-            3 => Ok(Slots::Eight),
-            4 => Ok(Slots::Sixteen),
-            _ => Err(UnknownCode(code)),
-        }
+        Slots::ALL
+            .get(usize::from(code))
+            .copied()
+            .ok_or(UnknownCode(code))
     }
 }
 
@@ -122,4 +146,92 @@ pub enum Frame<'a> {
         address: u8,
         bytes: &'a [u8; 8],
     },
+}
+
+// A request: 05, family code, PARAM, whose bits 4 to 7 are zero.
+fn put_request(family: u8, wake_up: bool, slots: Slots, buffer: &mut [u8]) -> Option<usize>
+    ensures { WrittenInto (Request family wake_up slots) buffer.old buffer.new result }
+{
+    let wake = if wake_up { 8 } else { 0 };
+    seal_into(&[0x05, family, wake + slots.code()], buffer)
+}
+
+fn put_slot_marker(slot: u8, buffer: &mut [u8]) -> Option<usize>
+    ensures { WrittenInto (SlotMarker slot) buffer.old buffer.new result }
+{
+    match slot {
+        2..=16 => seal_into(&[(slot - 1) * 16 + 5], buffer),
+        _ => None,
+    }
+}
+
+// ATTRIB: 1D, serial number, PARAM1 to PARAM4, INF.
+fn put_attrib(serial: Serial, params: [u8; 4], inf: &[u8], buffer: &mut [u8]) -> Option<usize>
+    ensures { WrittenInto (Attrib serial params inf.now) buffer.old buffer.new result }
+{
+    if inf.len() > 5 {
+        return None;
+    }
+    let [s0, s1, s2, s3] = serial;
+    let [p1, p2, p3, p4] = params;
+    let mut body = [0x1D, s0, s1, s2, s3, p1, p2, p3, p4, 0, 0, 0, 0, 0];
+    let len = 9 + inf.len();
+    body[9..len].copy_from_slice(inf);
+    seal_into(&body[..len], buffer)
+}
+
+fn put_halt(serial: Serial, buffer: &mut [u8]) -> Option<usize>
+    ensures { WrittenInto (Halt serial) buffer.old buffer.new result }
+{
+    let [s0, s1, s2, s3] = serial;
+    seal_into(&[0x50, s0, s1, s2, s3], buffer)
+}
+
+// A data command: command and card number, address byte, eight data bytes.
+fn put_command(op: Op, cid: u8, address: u8, bytes: &[u8; 8], buffer: &mut [u8]) -> Option<usize>
+    ensures { WrittenInto (Command op cid address bytes.now) buffer.old buffer.new result }
+{
+    if cid > 15 {
+        return None;
+    }
+    let [b0, b1, b2, b3, b4, b5, b6, b7] = *bytes;
+    seal_into(
+        &[op.head(cid), address, b0, b1, b2, b3, b4, b5, b6, b7],
+        buffer,
+    )
+}
+
+impl Frame<'_> {
+    ghost use Rattle.typeb.specs.Hears.{frame_of};
+    ghost use Rattle.typeb.specs.Carries.{WrittenIsHeard};
+
+    // Writes the frame and its check bytes to the front of a buffer and answers their length; none where it has no room.
+    // None, too, where a value has no place in a frame: slot 1 or above 16, INF of more than 5 bytes, a card number
+    // above 15. The bits of PARAM that may be any are zero. What is written is heard: clause `heard`.
+    #[tactic(auto, using(crate::proofs::Sealed::written_heard))]
+    pub fn put_into(self, buffer: &mut [u8]) -> Option<usize>
+        ensures written { WrittenInto (frame_of self.entry) buffer.old buffer.new result }
+        ensures heard { WrittenIsHeard (frame_of self.entry) }
+    {
+        match self {
+            Frame::Request {
+                family,
+                wake_up,
+                slots,
+            } => put_request(family, wake_up, slots, buffer),
+            Frame::SlotMarker { slot } => put_slot_marker(slot, buffer),
+            Frame::Attrib {
+                serial,
+                params,
+                inf,
+            } => put_attrib(serial, params, inf, buffer),
+            Frame::Halt { serial } => put_halt(serial, buffer),
+            Frame::Command {
+                op,
+                cid,
+                address,
+                bytes,
+            } => put_command(op, cid, address, bytes, buffer),
+        }
+    }
 }

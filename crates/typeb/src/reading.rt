@@ -47,7 +47,7 @@ fn read_body(body: &[u8]) -> Option<Frame<'_>>
 
 // What a tag hears in a frame; none where the frame is not heard.
 // It is exactly what the frame carries, as its sender put it together: clause `exact`.
-#[tactic(auto, unfolding(crate::specs::Hears::heard, crate::specs::CheckBytes::sound), using(crate::proofs::Exact::hears_exactly))]
+#[tactic(auto, unfolding(crate::specs::Hears::heard, crate::specs::CheckBytes::sound))]
 pub fn read_frame(frame: &[u8]) -> Option<Frame<'_>>
     ensures result { reading_of result ≡ heard frame.now }
     ensures exact { HearsExactly frame.now }
