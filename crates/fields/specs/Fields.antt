@@ -10,20 +10,25 @@ use Rattle.fields.specs.declared.FieldFault.TheVariants as fault
 -- The value of decimal digits behind a value so far; none where a character is no digit.
 abbrev pub digits_after : ℕ → List ℕ → Option ℕ
 digits_after value [] = Some value
-digits_after value (c ∷ rest) = cond (nat_le 48 c && nat_le c 57) (digits_after (10 * value + (c - 48)) rest) None
+digits_after value (c ∷ rest) =
+    cond (nat_le 48 c && nat_le c 57) (digits_after (10 * value + (c - 48)) rest) None
 
 -- One to three characters, a zero in front only where it is alone.
 abbrev pub plain : List ℕ → Bool
-plain field = (nat_le 1 (length field) && nat_le (length field) 3) && (length field == 1 || not (slice_index field 0 == 48))
+plain field =
+    (nat_le 1 (length field) && nat_le (length field) 3)
+    && (length field == 1 || not (slice_index field 0 == 48))
 
 -- A plain number.
 abbrev pub number_of : List ℕ → Result ℕ FieldFault
-number_of field = cond (plain field) (ok_or (digits_after 0 field) fault.Number) (Err fault.Number)
+number_of field =
+    cond (plain field) (ok_or (digits_after 0 field) fault.Number) (Err fault.Number)
 
 -- From `least` to `most` bytes, each as two lower-case hex digits.
 abbrev pub bytes_in : ℕ → ℕ → List ℕ → Result (List ℕ) FieldFault
 bytes_in least most field =
-    cond (nat_le (2 * least) (length field) && nat_le (length field) (2 * most)) (ok_or (hex_bytes field) fault.Bytes) (Err fault.Bytes)
+    cond (nat_le (2 * least) (length field) && nat_le (length field) (2 * most))
+    (ok_or (hex_bytes field) fault.Bytes) (Err fault.Bytes)
 
 -- The byte of the two digits at a place.
 abbrev pub pair_at : ℕ → List ℕ → Option ℕ
@@ -37,7 +42,9 @@ word_from None low = None
 
 -- A draw: four lower-case hex digits.
 abbrev pub draw_of : List ℕ → Result ℕ FieldFault
-draw_of field = cond (length field == 4) (ok_or (word_from (pair_at 0 field) (pair_at 2 field)) fault.Draw) (Err fault.Draw)
+draw_of field =
+    cond (length field == 4)
+    (ok_or (word_from (pair_at 0 field) (pair_at 2 field)) fault.Draw) (Err fault.Draw)
 
 -- The bytes that a value of the code holds.
 abbrev pub option_bytes : Option Message → Option (List ℕ)

@@ -1,5 +1,5 @@
 -- Lines: what each says.
-use Rattle.std.specs.Prelude.{ℕ, cond, List, [], ◌∷◌, Some, None, Ok, Err, codes, Option, Result}
+use Rattle.std.specs.Prelude.{ℕ, List, [], ◌∷◌, Some, None, Ok, Err, codes, Option, Result, if◌then◌else◌}
 use Rattle.std.specs.Str.{bytes_eq}
 use Rattle.parts.specs.Parts.{parted}
 use Rattle.typeb.specs.CheckBytes.{sealed}
@@ -19,24 +19,28 @@ use Rattle.sheet.specs.declared.lines.Line.{Line}
 use Rattle.sheet.specs.declared.lines.Line.TheVariants as line
 use Rattle.fields.specs.Fields.{number_of, bytes_in, draw_of}
 
+infixl 10 ◌>>=◌
+
 -- The words.
 abbrev pub word_of : List ℕ → Option Word
 word_of text =
-    cond (bytes_eq text (codes "tag")) (Some word.Tag)
-    (cond (bytes_eq text (codes "page")) (Some word.Page)
-    (cond (bytes_eq text (codes "on")) (Some word.On)
-    (cond (bytes_eq text (codes "off")) (Some word.Off)
-    (cond (bytes_eq text (codes "place")) (Some word.Place)
-    (cond (bytes_eq text (codes "lift")) (Some word.Lift)
-    (cond (bytes_eq text (codes "stock")) (Some word.Stock)
-    (cond (bytes_eq text (codes "send")) (Some word.Send)
-    (cond (bytes_eq text (codes "raw")) (Some word.Raw) None))))))))
+    if bytes_eq text (codes "tag") then Some word.Tag
+    else if bytes_eq text (codes "page") then Some word.Page
+    else if bytes_eq text (codes "on") then Some word.On
+    else if bytes_eq text (codes "off") then Some word.Off
+    else if bytes_eq text (codes "place") then Some word.Place
+    else if bytes_eq text (codes "lift") then Some word.Lift
+    else if bytes_eq text (codes "stock") then Some word.Stock
+    else if bytes_eq text (codes "send") then Some word.Send
+    else if bytes_eq text (codes "raw") then Some word.Raw
+    else None
 
 -- The kinds.
 abbrev pub kind_of : List ℕ → Result TagKind FieldFault
 kind_of text =
-    cond (bytes_eq text (codes "pump")) (Ok Pump)
-    (cond (bytes_eq text (codes "gauge")) (Ok Gauge) (Err field.Kind))
+    if bytes_eq text (codes "pump") then Ok Pump
+    else if bytes_eq text (codes "gauge") then Ok Gauge
+    else Err field.Kind
 
 -- What a line says: a tag of a kind with its draw, a page of a tag with its bytes, or a call.
 pub data Says : Type 0 where
@@ -45,25 +49,36 @@ pub data Says : Type 0 where
   Calls : calls.Asks → Says
 
 -- A field is read, and what follows takes its value; its fault is the line's.
-abbrev pub reading : {A B : Type 0} → Result A FieldFault → (A → Result B LineFault) → Result B LineFault
-reading (Ok value) next = next value
-reading (Err why) next = Err (fault.Field why)
+abbrev pub ◌>>=◌ : {A B : Type 0} → Result A FieldFault → (A → Result B LineFault) → Result B LineFault
+Ok value >>= next = next value
+Err why >>= next = Err (fault.Field why)
 
 -- What the fields behind a word say: as many as the word has, each in its form, the first asked first.
 abbrev pub word_says : Word → List (List ℕ) → Result Says LineFault
-word_says word.Tag (kind ∷ draw ∷ []) =
-    reading (kind_of kind) (λ k. reading (draw_of draw) (λ d. Ok (Tag k d)))
-word_says word.Page (tag ∷ page ∷ bytes ∷ []) =
-    reading (number_of tag) (λ t. reading (number_of page) (λ p.
-    reading (bytes_in 8 8 bytes) (λ b. Ok (Page t p b))))
+word_says word.Tag (kind ∷ draw ∷ []) = do
+    k ← kind_of kind
+    d ← draw_of draw
+    Ok (Tag k d)
+word_says word.Page (tag ∷ page ∷ bytes ∷ []) = do
+    t ← number_of tag
+    p ← number_of page
+    b ← bytes_in 8 8 bytes
+    Ok (Page t p b)
 word_says word.On [] = Ok (Calls calls.On)
 word_says word.Off [] = Ok (Calls calls.Off)
-word_says word.Place (tag ∷ []) = reading (number_of tag) (λ t. Ok (Calls (calls.Place t)))
-word_says word.Lift (tag ∷ []) = reading (number_of tag) (λ t. Ok (Calls (calls.Lift t)))
+word_says word.Place (tag ∷ []) = do
+    t ← number_of tag
+    Ok (Calls (calls.Place t))
+word_says word.Lift (tag ∷ []) = do
+    t ← number_of tag
+    Ok (Calls (calls.Lift t))
 word_says word.Stock [] = Ok (Calls calls.Stock)
-word_says word.Send (body ∷ []) =
-    reading (bytes_in 1 14 body) (λ b. Ok (Calls (calls.Frame (sealed b))))
-word_says word.Raw (bytes ∷ []) = reading (bytes_in 1 16 bytes) (λ b. Ok (Calls (calls.Frame b)))
+word_says word.Send (body ∷ []) = do
+    b ← bytes_in 1 14 body
+    Ok (Calls (calls.Frame (sealed b)))
+word_says word.Raw (bytes ∷ []) = do
+    b ← bytes_in 1 16 bytes
+    Ok (Calls (calls.Frame b))
 word_says word fields = Err fault.FieldCount
 
 -- A known word? Then its fields are asked for.
