@@ -20,7 +20,6 @@ use Rattle.sheet.specs.declared.lines.Line.TheVariants as line
 use Rattle.fields.specs.Fields.{number_of, bytes_in, draw_of}
 
 infixl 10 ◌>>=◌
-
 -- The words.
 abbrev pub word_of : List ℕ → Option Word
 word_of text =
@@ -56,29 +55,29 @@ Err why >>= next = Err (fault.Field why)
 -- What the fields behind a word say: as many as the word has, each in its form, the first asked first.
 abbrev pub word_says : Word → List (List ℕ) → Result Says LineFault
 word_says word.Tag (kind ∷ draw ∷ []) = do
-    k ← kind_of kind
-    d ← draw_of draw
-    Ok (Tag k d)
+  k ← kind_of kind
+  d ← draw_of draw
+  Ok (Tag k d)
 word_says word.Page (tag ∷ page ∷ bytes ∷ []) = do
-    t ← number_of tag
-    p ← number_of page
-    b ← bytes_in 8 8 bytes
-    Ok (Page t p b)
+  t ← number_of tag
+  p ← number_of page
+  b ← bytes_in 8 8 bytes
+  Ok (Page t p b)
 word_says word.On [] = Ok (Calls calls.On)
 word_says word.Off [] = Ok (Calls calls.Off)
 word_says word.Place (tag ∷ []) = do
-    t ← number_of tag
-    Ok (Calls (calls.Place t))
+  t ← number_of tag
+  Ok (Calls (calls.Place t))
 word_says word.Lift (tag ∷ []) = do
-    t ← number_of tag
-    Ok (Calls (calls.Lift t))
+  t ← number_of tag
+  Ok (Calls (calls.Lift t))
 word_says word.Stock [] = Ok (Calls calls.Stock)
 word_says word.Send (body ∷ []) = do
-    b ← bytes_in 1 14 body
-    Ok (Calls (calls.Frame (sealed b)))
+  b ← bytes_in 1 14 body
+  Ok (Calls (calls.Frame (sealed b)))
 word_says word.Raw (bytes ∷ []) = do
-    b ← bytes_in 1 16 bytes
-    Ok (Calls (calls.Frame b))
+  b ← bytes_in 1 16 bytes
+  Ok (Calls (calls.Frame b))
 word_says word fields = Err fault.FieldCount
 
 -- A known word? Then its fields are asked for.
