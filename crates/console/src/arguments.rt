@@ -1,5 +1,5 @@
 // The command line of a program. No contract can say which words it has.
-use crate::streams::{Failed, stop};
+use crate::streams::{Failed, print_all, stop};
 use crate::words::{Word, word_of};
 use std::env;
 
@@ -47,14 +47,19 @@ pub fn read_args<T: Copy + Drop>(
     Ok(asked)
 }
 
-// Reads the command line of a program that reads no input: whether its help is asked for.
-pub fn asks_help(rt: &HostRuntime, program: &str) -> Result<bool, Failed> {
-    let asked = read_args(rt, program, &[("--help", true)])?;
+// Reads the command line of a program that reads no input. Its help is printed where it is asked for: then there is no more
+// to do, and the answer is true.
+pub fn prints_help(rt: &HostRuntime, program: &str, usage: &str) -> Result<bool, Failed> {
+    let asked = read_args(rt, program, &[("--help", ())])?;
     if let Some(word) = &asked.input {
         let why = format_args!("no FILE is read, and {word} is one; {program} --help says more");
         return Err(stop(rt, program, why));
     }
-    Ok(!asked.options.is_empty())
+    if asked.options.is_empty() {
+        return Ok(false);
+    }
+    print_all(rt, program, usage.as_bytes())?;
+    Ok(true)
 }
 
 #[cfg(test)]

@@ -7,8 +7,8 @@ mod speaking;
 mod story;
 mod wording;
 
-use console::arguments::asks_help;
-use console::streams::{Failed, print_all, status, stop};
+use console::arguments::prints_help;
+use console::streams::{Failed, status, stop};
 use std::process::ExitCode;
 
 const USAGE: &str = "\
@@ -31,8 +31,8 @@ example, the first three lines:
 const NAME: &str = "scenario";
 
 fn run(rt: &HostRuntime) -> Result<(), Failed> {
-    if asks_help(rt, NAME)? {
-        return print_all(rt, NAME, USAGE.as_bytes());
+    if prints_help(rt, NAME, USAGE)? {
+        return Ok(());
     }
     story::tell(rt).map_err(|why| stop(rt, NAME, why))
 }

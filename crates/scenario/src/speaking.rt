@@ -6,12 +6,13 @@ ghost use Rattle.tray_core.specs.Step.{Frame, Stock, asks_of, step};
 ghost use Rattle.tray_core.specs.Views.{model_of};
 ghost use Rattle.scenario.specs.Speaks.{hearing_after, hearing_back, hearing_in, reply_size, taken, tray_after, buffer_after};
 
+use handling::handle;
+use kinds::kind::Kind;
 use reader::commands::Command;
 use reader::judging::judge;
 use reader::making::make;
 use reader::replies::Reply;
 use refusals::Refusal;
-use kinds::kind::Kind;
 use tray_core::calls::{Answer, Call};
 use tray_core::tray::Tray;
 use typeb::frames::Serial;
@@ -49,7 +50,7 @@ fn hear_frame<F: Kind, B: Kind>(
     ensures leaves { model_of F.Kind.means B.Kind.means tray.new ≡ (step F.Kind.acts B.Kind.acts (Frame frame.now) (model_of F.Kind.means B.Kind.means tray.old) buffer.old []).tray }
     ensures writes { buffer.new ≡ (step F.Kind.acts B.Kind.acts (Frame frame.now) (model_of F.Kind.means B.Kind.means tray.old) buffer.old []).buffer }
 {
-    let answer = tray.handle(Call::Frame(frame), buffer, &mut [])?;
+    let answer = handle(tray, Call::Frame(frame), buffer, &mut [])?;
     hear_answer(command, answer, buffer)
 }
 
@@ -82,7 +83,7 @@ pub fn act<F: Kind, B: Kind>(tray: &mut Tray<F, B>, call: Call<&[u8]>) -> Result
     ensures answers { numbered result ≡ (step F.Kind.acts B.Kind.acts (asks_of call.entry) (model_of F.Kind.means B.Kind.means tray.old) [] []).answer }
     ensures leaves { model_of F.Kind.means B.Kind.means tray.new ≡ (step F.Kind.acts B.Kind.acts (asks_of call.entry) (model_of F.Kind.means B.Kind.means tray.old) [] []).tray }
 {
-    tray.handle(call, &mut [], &mut [])
+    handle(tray, call, &mut [], &mut [])
 }
 
 // Takes stock, into a lent list.
@@ -94,5 +95,5 @@ pub fn take_stock<F: Kind, B: Kind>(
     ensures leaves { model_of F.Kind.means B.Kind.means tray.new ≡ (step F.Kind.acts B.Kind.acts Stock (model_of F.Kind.means B.Kind.means tray.old) [] list.old).tray }
     ensures lists { list.new ≡ (step F.Kind.acts B.Kind.acts Stock (model_of F.Kind.means B.Kind.means tray.old) [] list.old).list }
 {
-    tray.handle(Call::Stock, &mut [], list)
+    handle(tray, Call::Stock, &mut [], list)
 }

@@ -11,7 +11,8 @@ use Rattle.sheet.specs.Drafts.{Draft, blank_pump, blank_gauge, front_paged, back
 use Rattle.parts.specs.Parts.{parted}
 use Rattle.sheet.specs.Lines.{Says, Tag, Page, Calls, line_says}
 use Rattle.sheet.specs.Printing.{printed_answer}
-use Rattle.sheet.specs.Sheets.{SheetTray, Stage, Naming, Calling, Came, Went, Stopped, Run, stopped_at, ended, before, go_on, says_do, answered, tray_in, with_front, with_back, lines_run}
+use Rattle.sheet.specs.Sheets.{SheetTray, Stage, Naming, Calling, Came, Went, Stopped, Run, stopped_at, ended, before, go_on, says_do, answered, tray_in, with_front, with_back, lines_run, run_of}
+use Rattle.sheet.proofs.Loading.{names_load}
 use Rattle.sheet.specs.Played.{CallLine, call_in, calls_in, Names, NewTag, SetPage, name_in, names_in, does_name, Leads, step_of, Played, Plays, SheetPlays}
 
 -- no tag is named once calls are made
@@ -156,4 +157,7 @@ lines_play number stage (line ∷ next ∷ more) =
     (says_plays number (names_in (next ∷ more)) (calls_in (number + 1) (next ∷ more)) (λ after. lines_run (number + 1) after (next ∷ more)) (λ after. lines_play (number + 1) after (next ∷ more)) (line_says line) stage)
 
 pub sheet_plays : (sheet : List ℕ) → SheetPlays sheet
-sheet_plays sheet = asked_plays (leb (length sheet) 65536) (Naming [] []) (names_in (parted 10 sheet)) (calls_in 1 (parted 10 sheet)) _ 0 12 (lines_play 1 (Naming [] []) (parted 10 sheet))
+sheet_plays sheet =
+    let p : Plays (Naming [] []) (names_in (parted 10 sheet)) (calls_in 1 (parted 10 sheet)) (run_of sheet) =
+    asked_plays (leb (length sheet) 65536) (Naming [] []) (names_in (parted 10 sheet)) (calls_in 1 (parted 10 sheet)) _ 0 12 (lines_play 1 (Naming [] []) (parted 10 sheet)) in
+    record { plays = p; loads = names_load p.taken p.loaded p.leads }

@@ -1,17 +1,19 @@
 -- The steps of a run, as the code cuts its lines.
-use Rattle.std.proofs.Common.{◌≡◌, ℕ, ◌+◌, ◌<◌, ◌≤◌, min, ◌⊎◌, inl, inr, Bool, false, cond, eqb, leb, List, [], ◌∷◌, ◌++◌, length, get_or, take, IfOk, Ok, Err, Result, sym, refl, ap, ◌∙◌, subst, append_assoc, arith, length-append, length-take-le}
+use Rattle.std.proofs.Common.{◌≡◌, ℕ, ◌+◌, ◌<◌, ◌≤◌, min, ◌⊎◌, inl, inr, Bool, false, cond, eqb, leb, List, [], ◌∷◌, ◌++◌, length, get_or, take, Ok, Err, Global, String, string_bytes, Result, sym, refl, ap, ◌∙◌, subst, append_assoc, arith, length-append, length-take-le}
 use Rattle.std.specs.List.{AllWithin, IsFirstMatchOrLen}
+use Rattle.std.specs.Result.{MatchResult, IsErrAnd}
 use Rattle.std.proofs.lemmas.Bool.{cond-true, cond-false, cases_lt, eqb-true, le-leb, lt-leb, ne_eqb}
 use Rattle.std.proofs.lemmas.List.{get_or_append_left, take_more, take_at}
 use Rattle.std.proofs.lemmas.List.Splits.{slice_split_at, slice_split_none}
-use Rattle.std.specs.declared.alloc.AllocError.{AllocError}
-use Rattle.sheet.specs.declared.stops.Ran.{Ran}
-use Rattle.sheet.specs.declared.stops.Stop.{Stop}
-use Rattle.sheet.specs.declared.stops.Stop.TheVariants as is
+use Rattle.sheet.specs.declared.stages.Stage as coded
+use Rattle.sheet.specs.declared.stops.LineStop.{LineStop}
+use Rattle.sheet.specs.declared.stops.LineStop.TheVariants as is
+use Rattle.sheet.specs.declared.stops.SheetStop.{SheetStop}
 use Rattle.parts.specs.Parts.{parted}
 use Rattle.sheet.specs.Cuts.{IsEnded, IsUnended}
-use Rattle.sheet.specs.Sheets.{Stage, Came, Went, Run, stopped_at, before, go_on, line_does, lines_run}
-use Rattle.sheet.specs.Views.{run_by, CameBy, StoppedBy}
+use Rattle.sheet.specs.Faults.{fault_number}
+use Rattle.sheet.specs.Sheets.{Stage, Came, Went, Stopped, Run, stopped_at, before, go_on, line_does, lines_run}
+use Rattle.sheet.specs.Views.{came_behind, stage_of, stop_at, CameBy, RanBy}
 use Rattle.parts.proofs.Cuts.{parts_some}
 
 abbrev pub onward : ℕ → List (List ℕ) → Stage → Run
@@ -82,21 +84,38 @@ module _ (old : List ℕ) (stage : Stage) (target : Run) (xs piece rest : List �
   run_stops unended = ap (before old) (sym (line_stops (i + 1) stage xs piece rest cut unended (cases_lt cut.end (length xs)))) ∙ ap (λ (k : ℕ). before old (lines_run (k + 1) stage (parted 10 xs))) is ∙ so_far
 
 -- a line that went: what it printed joins the text
-pub line_went : (number : ℕ) (old new text : List ℕ) (came : Came) (after : Stage) (lines : List (List ℕ)) → new ≡ old ++ text → came ≡ Went text after
+went : (number : ℕ) (old new : List ℕ) (came : Came) (after : Stage) (lines : List (List ℕ)) → came_behind old came ≡ Went new after
     → before new (lines_run (number + 1) after lines) ≡ before old (go_on number came (onward number lines))
-line_went number old new text came after lines e is =
-    ap (λ (t : List ℕ). before t (lines_run (number + 1) after lines)) e
-    ∙ ap (λ (t : List ℕ). record { text = t; refused = (lines_run (number + 1) after lines).refused }) (append_assoc old text (lines_run (number + 1) after lines).text)
-    ∙ ap (λ (x : Came). before old (go_on number x (onward number lines))) (sym is)
+went number old new (Went text stage) after lines e =
+    let joined : old ++ text ≡ new = cc in
+    let on : stage ≡ after = cc in
+    sym
+    (ap (λ (s : Stage). before old (before text (lines_run (number + 1) s lines))) on
+    ∙ ap (λ (t : List ℕ). record { text = t; refused = (lines_run (number + 1) after lines).refused }) (sym (append_assoc old text (lines_run (number + 1) after lines).text))
+    ∙ ap (λ (t : List ℕ). before t (lines_run (number + 1) after lines)) joined)
+went number old new (Stopped why) after lines e = cc
 
--- a run that was refused, and the run that was asked for
-pub ran_then : (r : Result Ran AllocError) (x y : Run) → x ≡ y → IfOk r (λ ran. run_by ran ≡ x) → IfOk r (λ ran. run_by ran ≡ y)
-ran_then (Ok ran) x y e h = h ∙ e
-ran_then (Err a) x y e h = tt
+-- what a line answered, its fault made the sheet's
+module _ (post : LineStop → SheetStop → Type 0) (number : ℕ) (at : (e : LineStop) (s : SheetStop) → post e s → s ≡ stop_at number e) where
+  pub line_went : (r : Result coded.Stage LineStop) (m : Result coded.Stage SheetStop) (old new : String Global) (came : Came) (after : coded.Stage) (lines : List (List ℕ))
+      → MatchResult r (λ x. m ≡ Ok x) (λ e. IsErrAnd m (post e)) → CameBy r old new came → m ≡ Ok after
+      → before (string_bytes new) (lines_run (number + 1) (stage_of after) lines) ≡ before (string_bytes old) (go_on number came (onward number lines))
+  line_went (Ok stage) m old new came after lines maps by is =
+      let same : stage ≡ after = cc in
+      went number (string_bytes old) (string_bytes new) came (stage_of after) lines (by ∙ ap (λ (s : coded.Stage). Went (string_bytes new) (stage_of s)) same)
+  line_went (Err e) (Ok stage) old new came after lines maps by is = absurd maps
+  line_went (Err e) (Err s) old new came after lines maps by is = cc
 
-pub stopped_then : (stop : Stop) (came : Came) (n : ℕ) (old : List ℕ) (rest : Stage → Run) (target : Run) (r : Result Ran AllocError) → CameBy (Err stop) came → before old (go_on n came rest) ≡ target
-    → IfOk r (λ ran. StoppedBy stop n old (run_by ran)) → IfOk r (λ ran. run_by ran ≡ target)
-stopped_then (is.Fault f) came n old rest target (Ok ran) stopped e h = h ∙ ap (λ (x : Came). before old (go_on n x rest)) (sym stopped) ∙ e
-stopped_then (is.Memory a) came n old rest target (Ok ran) stopped e h = absurd h
-stopped_then (is.Fault f) came n old rest target (Err a) stopped e h = tt
-stopped_then (is.Memory b) came n old rest target (Err a) stopped e h = tt
+  stops : (stop : LineStop) (came : Came) (old new : String Global) (rest : Stage → Run) (target : Run) → CameBy (Err stop) old new came → before (string_bytes old) (go_on number came rest) ≡ target
+      → RanBy (Err (stop_at number stop)) new target
+  stops (is.Fault f) came old new rest target by e =
+      sym e ∙ ap (λ (x : Came). before (string_bytes old) (go_on number x rest)) by.1 ∙ ap (λ (t : List ℕ). before t (stopped_at number (fault_number f))) (sym by.0)
+  stops (is.Memory a) came old new rest target by e = tt
+
+  pub line_stopped : (r : Result coded.Stage LineStop) (m : Result coded.Stage SheetStop) (old new : String Global) (came : Came) (rest : Stage → Run) (target : Run) (stop : SheetStop)
+      → MatchResult r (λ x. m ≡ Ok x) (λ e. IsErrAnd m (post e)) → CameBy r old new came → m ≡ Err stop → before (string_bytes old) (go_on number came rest) ≡ target → RanBy (Err stop) new target
+  line_stopped (Ok stage) m old new came rest target stop maps by is e = cc
+  line_stopped (Err f) (Ok stage) old new came rest target stop maps by is e = cc
+  line_stopped (Err f) (Err s) old new came rest target stop maps by is e =
+      let same : stop_at number f ≡ stop = sym (at f s maps) ∙ cc in
+      subst (λ (x : SheetStop). RanBy (Err x) new target) same (stops f came old new rest target by e)

@@ -20,7 +20,8 @@ pub record Draft (M : Type 0) : Type 0 where
 module _ {M : Type 0} where
   -- A tag of an image of zeros, with its draw.
   abbrev pub zeroed : ℕ → (List ℕ → ℕ → M) → ℕ → Draft M
-  zeroed size new draw = record { image = replicate size 0; draw = draw; tag = new (replicate size 0) draw }
+  zeroed size new draw =
+      record { image = replicate size 0; draw = draw; tag = new (replicate size 0) draw }
 
   -- The tag is made anew from an image; what forbids it is the refusal.
   abbrev pub remade : Result M ℕ → List ℕ → ℕ → Result (Draft M) ℕ
@@ -29,7 +30,8 @@ module _ {M : Type 0} where
 
   -- A page of a tag is set: the page replaced in the image, the tag made anew.
   abbrev pub repaged : (List ℕ → ℕ → Result M ℕ) → ℕ → List ℕ → Draft M → Result (Draft M) ℕ
-  repaged made page bytes d = remade (made (put_page page bytes d.image) d.draw) (put_page page bytes d.image) d.draw
+  repaged made page bytes d =
+      remade (made (put_page page bytes d.image) d.draw) (put_page page bytes d.image) d.draw
 
   -- A row with its first draft changed, or with the rest of it changed, unless that is refused.
   abbrev pub in_front : Result (Draft M) ℕ → List (Draft M) → Result (List (Draft M)) ℕ

@@ -1,11 +1,9 @@
 pub mod Faults
-pub mod Fields
 pub mod Lines
 pub mod Printing
 pub mod Drafts
 pub mod Sheets
 pub mod Views
-pub mod Laws
 pub mod Played
 pub mod Cuts
 pub mod Worked

@@ -1,85 +1,97 @@
 -- Lines: what each says.
-use Rattle.std.specs.Prelude.{ℕ, cond, List, length, Some, None, Ok, Err, codes, Option, Result, ◌==◌}
+use Rattle.std.specs.Prelude.{ℕ, List, [], ◌∷◌, Some, None, Ok, Err, codes, Option, Result, if◌then◌else◌}
 use Rattle.std.specs.Str.{bytes_eq}
-use Rattle.parts.specs.Parts.{parted, field_at}
+use Rattle.parts.specs.Parts.{parted}
 use Rattle.typeb.specs.CheckBytes.{sealed}
 use Rattle.typeb.specs.Messages.{bytes_of}
 use Rattle.typeb.specs.declared.message.Message.{Message}
 use Rattle.tray_core.specs.declared.calls.Call.{Call}
 use Rattle.tray_core.specs.Step as calls
-use Rattle.sheet.specs.declared.faults.FieldFault.{FieldFault}
-use Rattle.sheet.specs.declared.faults.FieldFault.TheVariants as field
+use Rattle.fields.specs.declared.FieldFault.{FieldFault}
+use Rattle.fields.specs.declared.FieldFault.TheVariants as field
 use Rattle.sheet.specs.declared.faults.LineFault.{LineFault}
 use Rattle.sheet.specs.declared.faults.LineFault.TheVariants as fault
 use Rattle.sheet.specs.declared.words.TagKind.{TagKind}
 use Rattle.sheet.specs.declared.words.TagKind.TheVariants.{Pump, Gauge}
 use Rattle.sheet.specs.declared.words.Word.{Word}
 use Rattle.sheet.specs.declared.words.Word.TheVariants as word
-use Rattle.sheet.specs.declared.orders.Line.{Line}
-use Rattle.sheet.specs.declared.orders.Line.TheVariants as line
-use Rattle.sheet.specs.Fields.{number_of, bytes_in, draw_of}
+use Rattle.sheet.specs.declared.lines.Line.{Line}
+use Rattle.sheet.specs.declared.lines.Line.TheVariants as line
+use Rattle.fields.specs.Fields.{number_of, bytes_in, draw_of}
 
+infixl 10 ◌>>=◌
 -- The words.
 abbrev pub word_of : List ℕ → Option Word
 word_of text =
-    cond (bytes_eq text (codes "tag")) (Some word.Tag)
-    (cond (bytes_eq text (codes "page")) (Some word.Page)
-    (cond (bytes_eq text (codes "on")) (Some word.On)
-    (cond (bytes_eq text (codes "off")) (Some word.Off)
-    (cond (bytes_eq text (codes "place")) (Some word.Place)
-    (cond (bytes_eq text (codes "lift")) (Some word.Lift)
-    (cond (bytes_eq text (codes "stock")) (Some word.Stock)
-    (cond (bytes_eq text (codes "send")) (Some word.Send)
-    (cond (bytes_eq text (codes "raw")) (Some word.Raw) None))))))))
+    if bytes_eq text (codes "tag") then Some word.Tag
+    else if bytes_eq text (codes "page") then Some word.Page
+    else if bytes_eq text (codes "on") then Some word.On
+    else if bytes_eq text (codes "off") then Some word.Off
+    else if bytes_eq text (codes "place") then Some word.Place
+    else if bytes_eq text (codes "lift") then Some word.Lift
+    else if bytes_eq text (codes "stock") then Some word.Stock
+    else if bytes_eq text (codes "send") then Some word.Send
+    else if bytes_eq text (codes "raw") then Some word.Raw
+    else None
 
--- How many fields a line of each word has, the word included.
-abbrev pub field_count : Word → ℕ
-field_count word.Tag = 3
-field_count word.Page = 4
-field_count word.On = 1
-field_count word.Off = 1
-field_count word.Place = 2
-field_count word.Lift = 2
-field_count word.Stock = 1
-field_count word.Send = 2
-field_count word.Raw = 2
-
+-- The kinds.
 abbrev pub kind_of : List ℕ → Result TagKind FieldFault
 kind_of text =
-    cond (bytes_eq text (codes "pump")) (Ok Pump)
-    (cond (bytes_eq text (codes "gauge")) (Ok Gauge) (Err field.Kind))
+    if bytes_eq text (codes "pump") then Ok Pump
+    else if bytes_eq text (codes "gauge") then Ok Gauge
+    else Err field.Kind
 
--- What a line says: a tag of a kind with its draw, a page of a tag with its bytes, or a call of the tray.
+-- What a line says: a tag of a kind with its draw, a page of a tag with its bytes, or a call.
 pub data Says : Type 0 where
   Tag : TagKind → ℕ → Says
   Page : ℕ → ℕ → List ℕ → Says
   Calls : calls.Asks → Says
 
 -- A field is read, and what follows takes its value; its fault is the line's.
-abbrev pub reading : {A B : Type 0} → Result A FieldFault → (A → Result B LineFault) → Result B LineFault
-reading (Ok value) next = next value
-reading (Err why) next = Err (fault.Field why)
+abbrev pub ◌>>=◌ : {A B : Type 0} → Result A FieldFault → (A → Result B LineFault) → Result B LineFault
+Ok value >>= next = next value
+Err why >>= next = Err (fault.Field why)
 
--- What the fields behind a word say, where their count is right.
+-- What the fields behind a word say: as many as the word has, each in its form, the first asked first.
 abbrev pub word_says : Word → List (List ℕ) → Result Says LineFault
-word_says word.Tag fields = reading (kind_of (field_at 1 fields)) (λ kind. reading (draw_of (field_at 2 fields)) (λ draw. Ok (Tag kind draw)))
-word_says word.Page fields =
-    reading (number_of (field_at 1 fields)) (λ tag. reading (number_of (field_at 2 fields)) (λ page. reading (bytes_in 8 8 (field_at 3 fields)) (λ bytes. Ok (Page tag page bytes))))
-word_says word.On fields = Ok (Calls calls.On)
-word_says word.Off fields = Ok (Calls calls.Off)
-word_says word.Place fields = reading (number_of (field_at 1 fields)) (λ tag. Ok (Calls (calls.Place tag)))
-word_says word.Lift fields = reading (number_of (field_at 1 fields)) (λ tag. Ok (Calls (calls.Lift tag)))
-word_says word.Stock fields = Ok (Calls calls.Stock)
-word_says word.Send fields = reading (bytes_in 1 14 (field_at 1 fields)) (λ body. Ok (Calls (calls.Frame (sealed body))))
-word_says word.Raw fields = reading (bytes_in 1 16 (field_at 1 fields)) (λ bytes. Ok (Calls (calls.Frame bytes)))
+word_says word.Tag (kind ∷ draw ∷ []) = do
+  k ← kind_of kind
+  d ← draw_of draw
+  Ok (Tag k d)
+word_says word.Page (tag ∷ page ∷ bytes ∷ []) = do
+  t ← number_of tag
+  p ← number_of page
+  b ← bytes_in 8 8 bytes
+  Ok (Page t p b)
+word_says word.On [] = Ok (Calls calls.On)
+word_says word.Off [] = Ok (Calls calls.Off)
+word_says word.Place (tag ∷ []) = do
+  t ← number_of tag
+  Ok (Calls (calls.Place t))
+word_says word.Lift (tag ∷ []) = do
+  t ← number_of tag
+  Ok (Calls (calls.Lift t))
+word_says word.Stock [] = Ok (Calls calls.Stock)
+word_says word.Send (body ∷ []) = do
+  b ← bytes_in 1 14 body
+  Ok (Calls (calls.Frame (sealed b)))
+word_says word.Raw (bytes ∷ []) = do
+  b ← bytes_in 1 16 bytes
+  Ok (Calls (calls.Frame b))
+word_says word fields = Err fault.FieldCount
 
--- A known word? As many fields as it has?
-abbrev pub fields_say : Option Word → List (List ℕ) → Result Says LineFault
-fields_say None fields = Err fault.UnknownWord
-fields_say (Some w) fields = cond (length fields == field_count w) (word_says w fields) (Err fault.FieldCount)
+-- A known word? Then its fields are asked for.
+abbrev pub behind_say : Option Word → List (List ℕ) → Result Says LineFault
+behind_say (Some w) behind = word_says w behind
+behind_say None behind = Err fault.UnknownWord
+
+-- A line says what its fields say, the first of which is the word.
+abbrev pub fields_say : List (List ℕ) → Result Says LineFault
+fields_say (first ∷ behind) = behind_say (word_of first) behind
+fields_say [] = Err fault.UnknownWord
 
 abbrev pub line_says : List ℕ → Result Says LineFault
-line_says text = fields_say (word_of (field_at 0 (parted 44 text))) (parted 44 text)
+line_says text = fields_say (parted 44 text)
 
 -- What the values of the code say.
 abbrev pub order_asks : Call Message → calls.Asks

@@ -1,9 +1,12 @@
--- A run told without its lines' order: which of them name tags, which are calls, and what the calls do to the loaded tray.
+-- A run told without its lines' order: which of them name tags, which are calls, and what the calls
+-- do to the loaded tray.
 use Rattle.std.specs.Prelude.{◌≡◌, ℕ, ◌+◌, List, [], ◌∷◌, ◌++◌, Some, None, Ok, Err, Option, Result}
 use Rattle.tags.specs.Gauge.{gauge_acts}
 use Rattle.tags.specs.Pump.{pump_acts}
 use Rattle.tray_core.specs.declared.calls.Answer.{Answer}
-use Rattle.tray_core.specs.Step.{Asks, Outcome, step}
+use Rattle.tray_core.specs.Runs.{Turn, turn}
+use Rattle.tray_core.specs.Step.{Asks, Outcome}
+use Rattle.handling.specs.Laws.{Loaded, front_row}
 use Rattle.sheet.specs.declared.faults.LineFault.{LineFault}
 use Rattle.sheet.specs.declared.words.TagKind.{TagKind}
 use Rattle.parts.specs.Parts.{parted}
@@ -49,25 +52,32 @@ does_name (SetPage tag page bytes) stage = paged tag page bytes stage
 -- Tags named and pages set, one after another, lead from one stage to another.
 abbrev pub Leads : Stage → List Names → Stage → Type 0
 Leads stage [] last = stage ≡ last
-Leads stage (line ∷ lines) last = (next : Stage) × ((does_name line stage ≡ Went [] next) × Leads next lines last)
+Leads stage (line ∷ lines) last =
+    (next : Stage) × ((does_name line stage ≡ Went [] next) × Leads next lines last)
+
+-- A call line as a turn of a run: its call, with the buffer and the list that each call has.
+abbrev pub turn_of : CallLine → Turn
+turn_of line = record { call = line.call; buffer = empty_buffer; list = empty_list }
 
 abbrev pub step_of : CallLine → SheetTray → Outcome SheetTray
-step_of line tray = step pump_acts gauge_acts line.call tray empty_buffer empty_list
+step_of line tray = turn pump_acts gauge_acts (turn_of line) tray
 
 -- Calls put to a tray one after another, each answered, print this text.
 abbrev pub Played : SheetTray → List CallLine → List ℕ → Type 0
 Played tray [] text = text ≡ []
 Played tray (line ∷ lines) text =
     (answer : Answer) × ((rest : List ℕ) × (((step_of line tray).answer ≡ Ok answer)
-    × (text ≡ printed_answer line.number answer (step_of line tray).buffer (step_of line tray).list ++ rest)
+    × (text ≡ printed_answer line.number answer (step_of line tray).buffer (step_of line tray).list
+    ++ rest)
     × Played (step_of line tray).tray lines rest))
 
 abbrev pub refusal_text : Option Refused → List ℕ
 refusal_text (Some r) = printed_refusal r.line r.why
 refusal_text None = []
 
--- A run takes the first of these tag and page lines, loads the tray with what they name, and plays the first of these calls,
--- all of them where it is not refused. It prints their text and its refusal's line.
+-- A run takes the first of these tag and page lines, loads the tray with what they name, and plays
+-- the first of these calls, all of them where it is not refused. It prints their text and its
+-- refusal's line.
 pub record Plays (stage : Stage) (names : List Names) (calls : List CallLine) (run : Run) : Type 0 where
   pub taken : List Names
   pub untaken : List Names
@@ -82,6 +92,9 @@ pub record Plays (stage : Stage) (names : List Names) (calls : List CallLine) (r
   pub prints : run.text ≡ text ++ refusal_text run.refused
   pub whole : run.refused ≡ None → unmade ≡ []
 
--- So does the run of a sheet, from a tray without tags.
-abbrev pub SheetPlays : List ℕ → Type 0
-SheetPlays sheet = Plays (Naming [] []) (names_in (parted 10 sheet)) (calls_in 1 (parted 10 sheet)) (run_of sheet)
+-- So does the run of a sheet, from a tray without tags. What it loads is a loaded tray in the sense
+-- of the law over every run, and its calls are turns of such a run: so that law holds of them.
+pub record SheetPlays (sheet : List ℕ) : Type 0 where
+  pub plays : Plays (Naming [] []) (names_in (parted 10 sheet)) (calls_in 1 (parted 10 sheet))
+      (run_of sheet)
+  pub loads : Loaded front_row (tray_in plays.loaded)

@@ -48,7 +48,8 @@ with_back front (Err why) = Stopped why
 abbrev pub paged : ℕ → ℕ → List ℕ → Stage → Came
 paged tag page bytes (Calling tray) = Stopped 17
 paged tag page bytes (Naming front back) =
-    cond (nat_lt tag 32) (with_front (front_paged tag page bytes front) back) (with_back front (back_paged (tag - 32) page bytes back))
+    cond (nat_lt tag 32) (with_front (front_paged tag page bytes front) back)
+    (with_back front (back_paged (tag - 32) page bytes back))
 
 -- The tray of a call: loaded with the tags that were named, or as the call before left it.
 abbrev pub tags_of : {M : Type 0} → List (Draft M) → List M
@@ -74,7 +75,8 @@ abbrev pub called_on : ℕ → Outcome SheetTray → Came
 called_on number o = answered number o.answer o
 
 abbrev pub called : ℕ → Asks → Stage → Came
-called number call stage = called_on number (step pump_acts gauge_acts call (tray_in stage) empty_buffer empty_list)
+called number call stage =
+    called_on number (step pump_acts gauge_acts call (tray_in stage) empty_buffer empty_list)
 
 -- What a line does.
 abbrev pub says_do : ℕ → Result Says LineFault → Stage → Came
@@ -97,7 +99,11 @@ pub record Run : Type 0 where
   pub refused : Option Refused
 
 abbrev pub stopped_at : ℕ → ℕ → Run
-stopped_at line why = record { text = printed_refusal line why; refused = Some (record { line = line; why = why }) }
+stopped_at line why =
+    record { text = printed_refusal line why; refused = Some (record { line = line; why = why }) }
+
+abbrev pub refused_at : Refused → Run
+refused_at r = stopped_at r.line r.why
 
 abbrev pub ended : Run
 ended = record { text = []; refused = None }
@@ -110,19 +116,22 @@ abbrev pub go_on : ℕ → Came → (Stage → Run) → Run
 go_on number (Went printed stage) rest = before printed (rest stage)
 go_on number (Stopped why) rest = stopped_at number why
 
--- The lines from one on. What follows the last LF is no line where it is empty; else it lacks its LF.
+-- The lines from one on. What follows the last LF is no line where it is empty; else it lacks LF.
 -- LF among the first 80 bytes? Then the line is done, and the next one follows.
 abbrev pub lines_run : ℕ → Stage → List (List ℕ) → Run
 lines_run number stage [] = ended
 lines_run number stage (last ∷ []) = cond (length last == 0) ended (stopped_at number 13)
 lines_run number stage (line ∷ next ∷ more) =
     cond (nat_le (length line) 79)
-    (go_on number (line_does number line stage) (λ after. lines_run (number + 1) after (next ∷ more)))
+    (go_on number (line_does number line stage)
+    (λ after. lines_run (number + 1) after (next ∷ more)))
     (stopped_at number 13)
 
 -- A sheet of 65,536 bytes or fewer? Then its lines are run, from line 1 and a tray without tags.
 abbrev pub run_of : List ℕ → Run
-run_of sheet = cond (nat_le (length sheet) 65536) (lines_run 1 (Naming [] []) (parted 10 sheet)) (stopped_at 0 12)
+run_of sheet =
+    cond (nat_le (length sheet) 65536) (lines_run 1 (Naming [] []) (parted 10 sheet))
+    (stopped_at 0 12)
 
 abbrev pub printed_of : List ℕ → List ℕ
 printed_of sheet = (run_of sheet).text

@@ -3,7 +3,7 @@ use Rattle.std.specs.Prelude.{◌≡◌, ℕ, ◌<◌, List, [], ◌∷◌, ◌+
 use Rattle.parts.specs.Parts.{lined}
 use Rattle.typeb.specs.CheckBytes.{sealed}
 use Rattle.tray_core.specs.Step.{On, Off, Place, Lift, Frame, Stock}
-use Rattle.sheet.specs.declared.faults.FieldFault.TheVariants as field
+use Rattle.fields.specs.declared.FieldFault.TheVariants as field
 use Rattle.sheet.specs.declared.faults.LineFault.{LineFault}
 use Rattle.sheet.specs.declared.faults.LineFault.TheVariants as fault
 use Rattle.sheet.specs.declared.words.TagKind.TheVariants.{Pump, Gauge}

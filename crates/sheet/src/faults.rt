@@ -1,24 +1,13 @@
-// What can be wrong with a field, and with a line.
+// What can be wrong with a line.
 ghost use Rattle.std.specs.Prelude.{◌≡◌};
 ghost use Rattle.refusals.specs.Numbers.{number};
 ghost use Rattle.sheet.specs.Faults.{fault_number};
 ghost use Rattle.sheet.specs.declared.faults.LineFault.TheVariants.{Field, Refused};
 
+use fields::FieldFault;
 use refusals::Refusal;
 
-// A field that is not written as its place asks.
-#[derive(Clone, Copy, PartialEq, Eq, Debug)]
-pub enum FieldFault {
-    // the place asks for a plain number
-    Number,
-    // for bytes
-    Bytes,
-    // for a draw
-    Draw,
-    // for the name of a kind
-    Kind,
-}
-
+// A line that is not written or placed as lines are, or that is refused.
 #[derive(Clone, Copy, PartialEq, Eq, Debug)]
 pub enum LineFault {
     // no LF among the first 80 bytes
@@ -34,7 +23,8 @@ pub enum LineFault {
     Refused(Refusal),
 }
 
-// This and the others like it are written out: a derived `From` has no `from_gives`, which the clauses of callers read.
+// This and the others like it are written out: a derived `From` has no `from_gives`, which the
+// clauses of callers read.
 impl From<FieldFault> for LineFault {
     ghost from_gives = { λ e r. r ≡ Field e };
 

@@ -1,64 +1,69 @@
-// A line is read.
+// What a line says, and how it is read.
 ghost use Rattle.std.specs.Prelude.{◌≡◌, ◌≤◌, length};
-ghost use Rattle.parts.specs.Parts.{parted};
+ghost use Rattle.parts.specs.Parts.{given};
 ghost use Rattle.sheet.specs.Lines.{line_says, said_in, word_says};
 ghost use Rattle.sheet.specs.Worked.{LinesWorked};
 ghost use Rattle.typeb.specs.CheckBytes.{sealed};
 ghost use Rattle.typeb.specs.Messages.{bytes_of};
 
-use crate::bytes::Bytes;
 use crate::faults::LineFault;
-use crate::fields::{read_body, read_draw, read_number, read_page, read_raw};
-use crate::orders::{Line, Order};
 use crate::words::{TagKind, Word};
-use parts::{field, field_count};
+use fields::{read_body, read_draw, read_number, read_page, read_raw};
+use parts::split_fields;
+use tray_core::calls::Call;
 use typeb::crc::seal_into;
+use typeb::message::Message;
+
+// A call of the tray, with the bytes of its frame.
+pub type Order = Call<Message>;
+
+#[derive(Clone, Copy)]
+pub enum Line {
+    // a tag of a kind, with its draw
+    Tag(TagKind, u16),
+    // a page of a tag, with its bytes: no struct, since they part on the way (the tag names a row,
+    // and a draft in it)
+    Page(usize, usize, [u8; 8]),
+    Calls(Order),
+}
 
 // A body with its check bytes behind it.
-fn sealed_body(body: Bytes) -> Bytes
+fn sealed_body(body: Message) -> Message
     requires { length (bytes_of body) ≤ 14 }
     ensures { bytes_of result ≡ sealed (bytes_of body) }
 {
     let mut bytes = [0u8; 16];
     let len = seal_into(body.as_slice(), &mut bytes).unwrap();
-    Bytes::front_of(bytes, len)
+    Message::front_of(bytes, len)
 }
 
-// What the fields behind a word say, where their count is right.
-fn read_fields(word: Word, line: &[u8]) -> Result<Line, LineFault>
-    ensures { said_in result ≡ word_says word (parted 44 line.now) }
+// What the fields behind a word say: as many as the word has, and each in its form.
+fn read_fields(word: Word, fields: [Option<&[u8]>; 4]) -> Result<Line, LineFault>
+    ensures { said_in result ≡ word_says word (given fields.entry) }
 {
-    match word {
-        Word::Tag => {
-            let kind = TagKind::try_from(field(line, 1))?;
-            let draw = read_draw(field(line, 2))?;
+    match (word, fields) {
+        (Word::Tag, [Some(kind), Some(draw), None, ..]) => {
+            let kind = TagKind::try_from(kind)?;
+            let draw = read_draw(draw)?;
             Ok(Line::Tag(kind, draw))
         }
-        Word::Page => {
-            let tag = read_number(field(line, 1))?;
-            let page = read_number(field(line, 2))?;
-            let bytes = read_page(field(line, 3))?;
+        (Word::Page, [Some(tag), Some(page), Some(bytes), None]) => {
+            let tag = read_number(tag)?;
+            let page = read_number(page)?;
+            let bytes = read_page(bytes)?;
             Ok(Line::Page(tag, page, bytes))
         }
-        Word::On => Ok(Line::Calls(Order::On)),
-        Word::Off => Ok(Line::Calls(Order::Off)),
-        Word::Place => {
-            let tag = read_number(field(line, 1))?;
-            Ok(Line::Calls(Order::Place(tag)))
-        }
-        Word::Lift => {
-            let tag = read_number(field(line, 1))?;
-            Ok(Line::Calls(Order::Lift(tag)))
-        }
-        Word::Stock => Ok(Line::Calls(Order::Stock)),
-        Word::Send => {
-            let body = read_body(field(line, 1))?;
+        (Word::On, [None, ..]) => Ok(Line::Calls(Order::On)),
+        (Word::Off, [None, ..]) => Ok(Line::Calls(Order::Off)),
+        (Word::Place, [Some(tag), None, ..]) => Ok(Line::Calls(Order::Place(read_number(tag)?))),
+        (Word::Lift, [Some(tag), None, ..]) => Ok(Line::Calls(Order::Lift(read_number(tag)?))),
+        (Word::Stock, [None, ..]) => Ok(Line::Calls(Order::Stock)),
+        (Word::Send, [Some(body), None, ..]) => {
+            let body = read_body(body)?;
             Ok(Line::Calls(Order::Frame(sealed_body(body))))
         }
-        Word::Raw => {
-            let bytes = read_raw(field(line, 1))?;
-            Ok(Line::Calls(Order::Frame(bytes)))
-        }
+        (Word::Raw, [Some(bytes), None, ..]) => Ok(Line::Calls(Order::Frame(read_raw(bytes)?))),
+        _ => Err(LineFault::FieldCount),
     }
 }
 
@@ -69,9 +74,7 @@ pub fn read_line(line: &[u8]) -> Result<Line, LineFault>
     ensures result { said_in result ≡ line_says line.now }
     ensures worked { LinesWorked }
 {
-    let word = Word::try_from(field(line, 0))?;
-    if field_count(line) != word.field_count() {
-        return Err(LineFault::FieldCount);
-    }
-    read_fields(word, line)
+    let (first, behind) = split_fields(line);
+    let word = Word::try_from(first)?;
+    read_fields(word, behind)
 }

@@ -1,21 +1,23 @@
-// Tag lines and page lines.
-ghost use Rattle.std.specs.Prelude.{◌≡◌, [], map, IfOk, OnOk, string_bytes};
+// The tags that a sheet names, before its first call.
+ghost use Rattle.std.specs.Prelude.{◌≡◌, [], map, IfOk, OnOk};
 ghost use Rattle.sheet.specs.Drafts.{tag_of};
 ghost use Rattle.sheet.specs.Sheets.{Naming, Went, named, paged, tray_in};
-ghost use Rattle.sheet.specs.Views.{named_stage, stage_of, PagedBy};
-ghost use Rattle.tags.specs.Gauge.{gauge_means};
-ghost use Rattle.tags.specs.Pump.{pump_means};
-ghost use Rattle.tray_core.specs.Views.{model_of};
+ghost use Rattle.sheet.specs.Views.{named_stage, tray_of, PagedBy};
 
-use crate::drafting::set_in_row;
-use crate::drafts::{Draft, GaugeDraft, PumpDraft};
+use crate::drafts::{Draft, GaugeDraft, PumpDraft, set_in_row};
 use crate::faults::LineFault;
-use crate::stages::{Done, Named, Stage};
 use crate::words::TagKind;
 use std::alloc::{AllocError, Global};
 use tags::gauge::GaugeTag;
 use tags::pump::PumpTag;
 use tray_core::tray::Tray;
+
+// The tags that were named so far.
+#[derive(Drop)]
+pub(crate) struct Named {
+    front: Vec<PumpDraft>,
+    back: Vec<GaugeDraft>,
+}
 
 impl Named {
     // No tags.
@@ -30,7 +32,8 @@ impl Named {
 
     // A tag of zero pages, next in its row.
     pub(crate) fn add(&mut self, kind: TagKind, draw: u16) -> Result<(), AllocError>
-        ensures { OnOk result (named kind draw (named_stage self.old) ≡ Went [] (named_stage self.new)) }
+        ensures { OnOk result
+            (named kind draw (named_stage self.old) ≡ Went [] (named_stage self.new)) }
     {
         match kind {
             TagKind::Pump => self.front.push(PumpDraft::blank(draw))?,
@@ -55,20 +58,9 @@ impl Named {
         }
     }
 
-    // The tags so far, where a line printed nothing.
-    pub(crate) fn into_done(self, heap: Global) -> Done
-        ensures text { string_bytes result.text ≡ [] }
-        ensures stage { stage_of result.stage ≡ named_stage self }
-    {
-        Done {
-            stage: Stage::Naming(self),
-            text: String::new(heap),
-        }
-    }
-
     // The tray with the tags that were named.
     pub(crate) fn load(&self, heap: Global) -> Result<Tray<PumpTag, GaugeTag>, AllocError>
-        ensures { IfOk result (λ tray. model_of pump_means gauge_means tray ≡ tray_in (named_stage self.now)) }
+        ensures { IfOk result (λ tray. tray_of tray ≡ tray_in (named_stage self.now)) }
     {
         let front = tags_of(heap, self.front.as_slice())?;
         let back = tags_of(heap, self.back.as_slice())?;

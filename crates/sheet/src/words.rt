@@ -2,9 +2,10 @@
 ghost use Rattle.std.specs.Prelude.{◌≡◌};
 ghost use Rattle.std.specs.Option.{ok_or};
 ghost use Rattle.sheet.specs.declared.faults.LineFault.TheVariants.{UnknownWord};
-ghost use Rattle.sheet.specs.Lines.{word_of, field_count, kind_of};
+ghost use Rattle.sheet.specs.Lines.{word_of, kind_of};
 
-use crate::faults::{FieldFault, LineFault};
+use crate::faults::LineFault;
+use fields::FieldFault;
 
 #[derive(Clone, Copy, PartialEq, Eq, Debug)]
 pub enum Word {
@@ -43,20 +44,6 @@ impl TryFrom<&[u8]> for Word {
             b"send" => Ok(Word::Send),
             b"raw" => Ok(Word::Raw),
             _ => Err(LineFault::UnknownWord),
-        }
-    }
-}
-
-impl Word {
-    // How many fields a line of this word has, the word included. Several words have as many, so it is no number of the case.
-    pub fn field_count(self) -> usize
-        ensures { result ≡ field_count self }
-    {
-        match self {
-            Word::On | Word::Off | Word::Stock => 1,
-            Word::Place | Word::Lift | Word::Send | Word::Raw => 2,
-            Word::Tag => 3,
-            Word::Page => 4,
         }
     }
 }

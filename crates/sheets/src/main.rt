@@ -1,8 +1,8 @@
 // Runs the example sheets and compares what each prints with the text that stands beside it.
 #![tactic(auto)]
 
-use console::arguments::asks_help;
-use console::streams::{Failed, print_all, status, stop};
+use console::arguments::prints_help;
+use console::streams::{Failed, status, stop};
 use sheet::running::run_sheet;
 use std::fs;
 use std::process::ExitCode;
@@ -44,8 +44,8 @@ fn try_sheet(rt: &HostRuntime, name: &str) -> Result<(), Failed> {
 }
 
 fn run(rt: &HostRuntime) -> Result<(), Failed> {
-    if asks_help(rt, NAME)? {
-        return print_all(rt, NAME, USAGE.as_bytes());
+    if prints_help(rt, NAME, USAGE)? {
+        return Ok(());
     }
     for name in NAMES {
         try_sheet(rt, name)?;

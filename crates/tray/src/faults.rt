@@ -1,6 +1,7 @@
 // What a refused sheet is told: the line, what is wrong there, and what was expected.
+use fields::FieldFault;
 use refusals::Refusal;
-use sheet::faults::{FieldFault, LineFault};
+use sheet::faults::LineFault;
 use sheet::stops::SheetFault;
 use std::fmt;
 

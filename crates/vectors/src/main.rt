@@ -3,8 +3,8 @@
 
 mod judging;
 
-use console::arguments::asks_help;
-use console::streams::{Failed, print_all, status, stop};
+use console::arguments::prints_help;
+use console::streams::{Failed, status, stop};
 use hex_pairs::Hex;
 use judging::{Verdict, judge};
 use std::io;
@@ -62,8 +62,8 @@ fn judge_all(rt: &HostRuntime) -> io::Result<bool> {
 }
 
 fn run(rt: &HostRuntime) -> Result<(), Failed> {
-    if asks_help(rt, NAME)? {
-        return print_all(rt, NAME, USAGE.as_bytes());
+    if prints_help(rt, NAME, USAGE)? {
+        return Ok(());
     }
     let agree = judge_all(rt).map_err(|e| stop(rt, NAME, e))?;
     if agree {

@@ -1,11 +1,33 @@
-use Rattle.std.proofs.Common.{◌≡◌, ℕ, true, eqb, eq-eqb, List, length, Some, None, Ok, Option, sym, ap, ◌∙◌, arith}
+use Rattle.std.proofs.Common.{◌≡◌, ℕ, List, [], ◌∷◌, take, Some, None, Ok, Option, sym, refl, ap, ◌∙◌}
 use Rattle.std.specs.Option.{ok_or}
-use Rattle.std.proofs.lemmas.Bool.{cond-true}
-use Rattle.parts.specs.Parts.{parted}
+use Rattle.parts.specs.Parts.{parted, given}
 use Rattle.sheet.specs.declared.faults.LineFault.{LineFault}
 use Rattle.sheet.specs.declared.words.Word.{Word}
-use Rattle.sheet.specs.Lines.{fields_say, field_count, word_of}
+use Rattle.sheet.specs.declared.words.Word.TheVariants.{Tag, Page, On, Off, Place, Lift, Stock, Send, Raw}
+use Rattle.sheet.specs.Lines.{behind_say, fields_say, word_of}
 use Rattle.sheet.proofs.lines.read_line.Goals as goal
+
+-- no word has four fields behind it
+too_many : (o : Option Word) (a b c d : List ℕ) (more : List (List ℕ)) → behind_say o (a ∷ b ∷ c ∷ d ∷ []) ≡ behind_say o (a ∷ b ∷ c ∷ d ∷ more)
+too_many (Some Tag) a b c d more = refl
+too_many (Some Page) a b c d more = refl
+too_many (Some On) a b c d more = refl
+too_many (Some Off) a b c d more = refl
+too_many (Some Place) a b c d more = refl
+too_many (Some Lift) a b c d more = refl
+too_many (Some Stock) a b c d more = refl
+too_many (Some Send) a b c d more = refl
+too_many (Some Raw) a b c d more = refl
+too_many None a b c d more = refl
+
+-- so five fields say what all of them do
+first_say : (fields : List (List ℕ)) → fields_say (take 5 fields) ≡ fields_say fields
+first_say [] = refl
+first_say (w ∷ []) = refl
+first_say (w ∷ a ∷ []) = refl
+first_say (w ∷ a ∷ b ∷ []) = refl
+first_say (w ∷ a ∷ b ∷ c ∷ []) = refl
+first_say (w ∷ a ∷ b ∷ c ∷ d ∷ more) = too_many (word_of w) a b c d more
 
 known : (o : Option Word) (word : Word) (fault : LineFault) → Ok word ≡ ok_or o fault → o ≡ Some word
 known (Some w) word fault e = cc
@@ -13,8 +35,9 @@ known None word fault e = cc
 
 pub returns-clause-result : goal.returns-clause-result
 returns-clause-result c =
-    let fields : List (List ℕ) = parted 44 c.args.line.now in
-    let count : eqb (length fields) (field_count c.in_ok-word.word) ≡ true = eq-eqb _ _ (omega arith) in
+    let first : List ℕ = c.split_fields.result.0.now in
+    let behind : List (List ℕ) = given c.split_fields.result.1 in
     c.read_fields.ensures
-    ∙ sym (cond-true _ _ _ count)
-    ∙ ap (λ (o : Option Word). fields_say o fields) (sym (known (word_of c.field.result.now) c.in_ok-word.word _ c.in_ok-word.ensures) ∙ ap word_of c.field.ensures)
+    ∙ ap (λ (o : Option Word). behind_say o behind) (sym (known (word_of first) c.in_ok-word.word _ c.in_ok-word.ensures))
+    ∙ ap fields_say c.split_fields.ensures.result
+    ∙ first_say (parted 44 c.args.line.now)

@@ -1,5 +1,0 @@
-use Rattle.sheet.proofs.Digits.{at_most}
-use Rattle.sheet.proofs.fields.read_body.Goals as goal
-
-pub returns-clause-bound : goal.returns-clause-bound
-returns-clause-bound c = at_most 1 14 c.args.field.now c.read_bytes.result c.read_bytes.ensures
