@@ -3,9 +3,9 @@ use Rattle.std.specs.Prelude.{ℕ, cond, List, [], take, Some, None, Ok, Err, Op
 use Rattle.refusals.specs.declared.Refusal.{Refusal}
 use Rattle.refusals.specs.Numbers.{outcome}
 use Rattle.kinds.specs.Kinds.{Behaviour}
-use Rattle.kinds.specs.Says.{Says}
+use Rattle.kinds.specs.Says.{Says, Answer, Card, Page, Acknowledged, Refused}
 use Rattle.reader.specs.Commands.{Asked, in_range, frame_for}
-use Rattle.reader.specs.Judged.{judged, said_in}
+use Rattle.reader.specs.Judged.{judged}
 use Rattle.tray_core.specs.declared.calls.Answer as calls
 use Rattle.tray_core.specs.declared.calls.Answer.TheVariants as answer
 use Rattle.tray_core.specs.Sounds as sounds
@@ -24,7 +24,11 @@ pub data Hearing : Type 0 where
 abbrev pub hearing_of : Heard → Hearing
 hearing_of heard.Silence = Silence
 hearing_of (heard.Clash n) = Clash n
-hearing_of (heard.Said reply) = Said (said_in reply)
+hearing_of (heard.Answer serial application protocol) = Said (Answer serial application protocol)
+hearing_of (heard.Card cid) = Said (Card cid)
+hearing_of (heard.Page bytes) = Said (Page bytes)
+hearing_of heard.Acknowledged = Said Acknowledged
+hearing_of (heard.Refused code) = Said (Refused code)
 
 abbrev pub hearing_in : Result Heard Refusal → Result Hearing ℕ
 hearing_in r = outcome hearing_of r

@@ -2,9 +2,11 @@
 ghost use Rattle.std.specs.Prelude.{◌≡◌, ◌≤◌, [], length, replicate, Ok};
 ghost use Rattle.refusals.specs.Numbers.{numbered};
 ghost use Rattle.reader.specs.Commands.{asked_of};
+ghost use Rattle.reader.specs.Judged.{said_in};
 ghost use Rattle.tray_core.specs.Step.{Frame, Stock, asks_of, step};
 ghost use Rattle.tray_core.specs.Views.{model_of};
-ghost use Rattle.scenario.specs.Speaks.{hearing_after, hearing_back, hearing_in, reply_size, taken, tray_after, buffer_after};
+ghost use Rattle.scenario.specs.Speaks.{Said, hearing_after, hearing_back, hearing_in, hearing_of, reply_size};
+ghost use Rattle.scenario.specs.Speaks.{taken, tray_after, buffer_after};
 
 use handling::handle;
 use kinds::kind::Kind;
@@ -17,14 +19,44 @@ use tray_core::calls::{Answer, Call};
 use tray_core::tray::Tray;
 use typeb::frames::Serial;
 
-// What a reader hears after a command.
+// What a reader hears after a command. A page is told after its buffer is given back, so its bytes are copied.
 #[derive(Clone, Copy)]
 pub enum Heard {
     Silence,
     // so many tags answered at once
     Clash(usize),
-    // one tag answered
-    Said(Reply),
+    // one tag answered, as in a reply
+    Answer {
+        serial: Serial,
+        application: [u8; 4],
+        protocol: [u8; 3],
+    },
+    Card(u8),
+    Page([u8; 8]),
+    Acknowledged,
+    Refused(u8),
+}
+
+impl From<Reply<'_>> for Heard {
+    ghost from_gives = { λ reply heard. hearing_of heard ≡ Said (said_in reply) };
+
+    fn from(reply: Reply<'_>) -> Heard {
+        match reply {
+            Reply::Answer {
+                serial,
+                application,
+                protocol,
+            } => Heard::Answer {
+                serial,
+                application,
+                protocol,
+            },
+            Reply::Card(cid) => Heard::Card(cid),
+            Reply::Page(bytes) => Heard::Page(*bytes),
+            Reply::Acknowledged => Heard::Acknowledged,
+            Reply::Refused(code) => Heard::Refused(code),
+        }
+    }
 }
 
 // What is heard in the tray's answer, with a reply at the front of the buffer.
@@ -33,7 +65,7 @@ fn hear_answer(command: Command<'_>, answer: Answer, buffer: &[u8]) -> Result<He
     ensures { hearing_in result ≡ taken (asked_of command.entry) buffer.now (Ok answer) }
 {
     match answer {
-        Answer::Reply(n) => judge(command, &buffer[0..n]).map(Heard::Said),
+        Answer::Reply(n) => judge(command, &buffer[0..n]).map(Heard::from),
         Answer::Clash(n) => Ok(Heard::Clash(n)),
         Answer::Silent | Answer::Done | Answer::Stock { .. } => Ok(Heard::Silence),
     }

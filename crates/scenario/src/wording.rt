@@ -9,7 +9,6 @@ ghost use Rattle.tray_core.specs.Step.{asks_of};
 use crate::speaking::Heard;
 use hex_pairs::Hex;
 use reader::commands::Command;
-use reader::replies::Reply;
 use refusals::Refusal;
 use std::fmt;
 use tray_core::calls::{Answer, Call};
@@ -60,11 +59,11 @@ impl fmt::Display for Heard {
         match self {
             Heard::Silence => f.write_str("silence"),
             Heard::Clash(n) => write!(f, "clash of {n}"),
-            Heard::Said(Reply::Answer { serial, .. }) => write!(f, "answer from {}", Hex(serial)),
-            Heard::Said(Reply::Card(cid)) => write!(f, "card {cid}"),
-            Heard::Said(Reply::Page(bytes)) => write!(f, "page {}", Hex(bytes)),
-            Heard::Said(Reply::Acknowledged) => f.write_str("acknowledged"),
-            Heard::Said(Reply::Refused(code)) => write!(f, "refused {}", Hex(&[*code])),
+            Heard::Answer { serial, .. } => write!(f, "answer from {}", Hex(serial)),
+            Heard::Card(cid) => write!(f, "card {cid}"),
+            Heard::Page(bytes) => write!(f, "page {}", Hex(bytes)),
+            Heard::Acknowledged => f.write_str("acknowledged"),
+            Heard::Refused(code) => write!(f, "refused {}", Hex(&[*code])),
         }
     }
 }
