@@ -19,7 +19,8 @@ use tray_core::calls::{Answer, Call};
 use tray_core::tray::Tray;
 use typeb::frames::Serial;
 
-// What a reader hears after a command. A page is told after its buffer is given back, so its bytes are copied.
+// What a reader hears after a command. A page is told after its buffer is given back, so its bytes
+// are copied.
 #[derive(Clone, Copy)]
 pub enum Heard {
     Silence,
