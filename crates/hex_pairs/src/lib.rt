@@ -1,11 +1,11 @@
 // Bytes as hex text: two lower-case digits for each byte, the high nibble first.
 #![tactic(auto)]
 
-ghost use Rattle.std.specs.Prelude.{◌≡◌, ◌%◌, [], ◌∷◌, Some};
+ghost use Rattle.std.specs.Prelude.{◌≡◌, ◌*◌, ◌%◌, ◌≤◌, [], ◌∷◌, length, take, Some};
 ghost use Rattle.hex_pairs.specs.Hex.{hex_digit, hex_text, digit_value, byte_of, ReadsBack, OnlyWritten, AllDigits};
 ghost use Rattle.std.specs.Fmt.{WritesOnOk};
 
-use std::fmt;
+use std::{fmt, str};
 
 // The digit of a value below 16, lower case; of a larger value the low nibble counts.
 pub fn digit(value: u8) -> u8
@@ -58,19 +58,35 @@ impl fmt::Display for Hex<'_> {
     ghost output = { λ h. Some (hex_text h.0.now) };
 
     fn fmt<W: fmt::Write>(&self, f: &mut fmt::Formatter<W>) -> fmt::Result {
-        for byte in self.0 {
-            put_byte(f, *byte)?;
+        for part in self.0.chunks(16) {
+            put_part(f, part)?;
         }
         Ok(())
     }
 }
 
-// Writes the two digits of a byte.
-fn put_byte<W: fmt::Write>(f: &mut fmt::Formatter<W>, byte: u8) -> fmt::Result
-    ensures { WritesOnOk W.write_str_gives f.old result (hex_text (byte ∷ [])) f.new }
+// Writes the digits of at most sixteen bytes, all at once.
+fn put_part<W: fmt::Write>(f: &mut fmt::Formatter<W>, part: &[u8]) -> fmt::Result
+    requires { length part.now ≤ 16 }
+    ensures { WritesOnOk W.write_str_gives f.old result (hex_text part.now) f.new }
 {
-    let [high, low] = digits(byte);
-    let high = char::from(high);
-    let low = char::from(low);
-    write!(f, "{high}{low}")
+    let text = part_digits(part);
+    let Ok(text) = str::from_utf8(&text[..2 * part.len()]) else {
+        unreachable!();
+    };
+    f.write_str(text)
+}
+
+// The digits of at most sixteen bytes, at the start of a text of 32.
+fn part_digits(part: &[u8]) -> [u8; 32]
+    requires { length part.now ≤ 16 }
+    ensures { take (2 * length part.now) result ≡ hex_text part.now }
+{
+    let mut text = [0; 32];
+    for (i, byte) in part.iter().enumerate() {
+        let [high, low] = digits(*byte);
+        text[2 * i] = high;
+        text[2 * i + 1] = low;
+    }
+    text
 }

@@ -1,12 +1,23 @@
-use Rattle.std.proofs.Common.{refl, arith}
-use Rattle.hex_pairs.proofs.Texts.{text_more}
-use Rattle.std.proofs.Output.{has_written_of_eq, has_written_append}
+use Rattle.std.proofs.Common.{List, ℕ, ◌++◌, ap, sym, ◌∙◌, rules, append_assoc}
+use Rattle.std.proofs.Output.{has_written_append}
+use Rattle.std.specs.Slice.Iter.{chunks_rest}
+use Rattle.hex_pairs.specs.Hex.{hex_text}
+use Rattle.hex_pairs.proofs.Texts.{text_append}
 use Rattle.hex_pairs.proofs.HexDisplay.fmt.Goals as goal
 
-pub loop-byte-preserved : goal.loop-byte-preserved
-loop-byte-preserved g c = λ plain.
-    let before = c.loop-byte.invariant plain in
-    let put = c.in_ok-put_byte.ensures before.plain refl in
-    has_written_of_eq g.W.Write.write_str_gives _ _ _ _
-    (text_more c.args.self.now.0.now c.loop-byte.byte-index (omega arith))
-    (has_written_append g.W.Write.write_str_gives _ _ _ _ _ before put)
+pub loop-part-preserved : goal.loop-part-preserved
+loop-part-preserved g c =
+    let part = c.in-Some.part.now in
+    let left = chunks_rest c.next.new.self in
+    let steps = c.in-Some.ensures.steps in (
+      search rules,
+      tt,
+      steps.0 ∙ c.loop-part.invariant.2,
+      λ plain.
+          let so_far = c.loop-part.invariant.3 plain in (
+            so_far.0 ++ hex_text part,
+            has_written_append _ _ _ _ _ _ so_far.1 (search rules),
+            append_assoc so_far.0 _ _ ∙ ap (λ (t : List ℕ). so_far.0 ++ t) (sym (text_append part left) ∙ ap hex_text (sym steps.1.0))
+                ∙ so_far.2,
+          ),
+    )
