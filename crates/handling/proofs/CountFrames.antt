@@ -1,12 +1,12 @@
 -- Which frames carry a data command.
 use Rattle.std.proofs.Common.{◌≡◌, ℕ, ◌-◌, ◌/◌, ◌%◌, false, ◌&&◌, eqb, ltb, leb, List, length, drop, Some, None, Option, sym, refl, ap, ◌∙◌, subst, arith}
-use Rattle.std.proofs.lemmas.List.{length-drop, take_at}
+use Rattle.std.proofs.lemmas.List.{length-drop}
 use Rattle.std.proofs.lemmas.Bool.{cond_both, eqb-true}
-use Rattle.typeb.specs.CheckBytes.{check_bytes, sealed, sound, body_of}
+use Rattle.typeb.specs.CheckBytes.{sealed, sound, body_of}
 use Rattle.typeb.specs.declared.frames.Slots.{Slots}
 use Rattle.typeb.specs.declared.frames.Op.{Op}
 use Rattle.typeb.specs.Hears.{Heard, Request, SlotMarker, Attrib, Halt, Command, heard, in_body, at, request_of, command_of, slots_of, op_of}
-use Rattle.typeb.proofs.Buffers.{length_sealed}
+use Rattle.typeb.proofs.Sealed.{body_of_sealed}
 use Rattle.tags.specs.Conduct.{is_check}
 use Rattle.handling.specs.Laws.{is_count}
 
@@ -62,11 +62,6 @@ eight_heard frame =
     (of_body Eight tt eight_link (body_of frame)
     (λ ten. eight_command _ _ (drop 2 (body_of frame)) _ (length-drop 2 (body_of frame) ∙ ap (λ (n : ℕ). n - 2) ten)))
 
-body_sealed : (body : List ℕ) → body_of (sealed body) ≡ body
-body_sealed body =
-    let long = length_sealed body in
-    take_at body (check_bytes body) (length (sealed body) - 2) (omega arith)
-
 -- a sealed body that has not ten bytes, or not the head of a data command, carries none
 abbrev pub Plain : Option Heard → Type 0
 Plain (Some frame) = ForLink frame
@@ -75,7 +70,7 @@ Plain None = Unit {0}
 pub no_command : (body : List ℕ) → (length body ≡ 10 → op_of (at 0 body / 16) ≡ None) → Plain (heard (sealed body))
 no_command body other =
     of_heard Plain tt (λ frame h. h) (sealed body)
-    (subst (λ (b : List ℕ). Plain (in_body b)) (sym (body_sealed body))
+    (subst (λ (b : List ℕ). Plain (in_body b)) (sym (body_of_sealed body))
     (of_body Plain tt (λ frame h. h) body
     (λ ten. subst (λ (op : Option Op). Plain (command_of (at 0 body % 16) (at 1 body) (drop 2 body) op)) (sym (other ten)) tt)))
 

@@ -95,7 +95,7 @@ fn echo_of(told: Frame<'_>) -> Option<Echo>
 
 // A body and its check bytes, at the front of the buffer. Answers the length. That the body fits is proved at each call: a
 // type for at most 14 bytes would be a buffer with a length beside it.
-#[tactic(auto, using(crate::proofs::Lists::placed_by))]
+#[tactic(auto, using(crate::proofs::Sealing::placed_by))]
 fn put_sealed(body: &[u8], reply: &mut [u8; 16]) -> usize
     requires { length body.now ≤ 14 }
     ensures { Placed (sealed body.now) reply.old reply.new result }
@@ -105,7 +105,7 @@ fn put_sealed(body: &[u8], reply: &mut [u8; 16]) -> usize
 
 // ATQB for a serial number and application data. Here and below the arrays are written out, as they are sent: copies into
 // zeros would be no shorter, and hide the order.
-#[tactic(auto, using(crate::proofs::Lists::listed))]
+#[tactic(auto, using(typeb::proofs::Parts::listed))]
 fn put_answer(s: Serial, a: [u8; 4], reply: &mut [u8; 16]) -> usize
     ensures { Placed (sealed (said_body [] 0 (Answer s a protocol_info))) reply.old reply.new result }
 {
@@ -118,7 +118,7 @@ fn put_answer(s: Serial, a: [u8; 4], reply: &mut [u8; 16]) -> usize
 }
 
 // A page behind what is repeated.
-#[tactic(auto, using(crate::proofs::Lists::listed))]
+#[tactic(auto, using(typeb::proofs::Parts::listed))]
 fn put_page(echo: Option<Echo>, b: [u8; 8], reply: &mut [u8; 16]) -> usize
     ensures { Placed (sealed (said_body (repeated echo) (page_repeated echo) (Page b))) reply.old reply.new result }
 {

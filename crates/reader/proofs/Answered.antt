@@ -9,7 +9,7 @@ use Rattle.typeb.proofs.Buffers.{length_sealed}
 use Rattle.typeb.proofs.Residue.{sealed_sound}
 use Rattle.typeb.proofs.Sealed.{body_of_sealed}
 use Rattle.kinds.specs.Says.{Says, Answer, Page, Acknowledged, Refused, echo, page_named, said_body, reply_bytes}
-use Rattle.kinds.proofs.Lists.{listed}
+use Rattle.typeb.proofs.Parts.{listed}
 use Rattle.reader.specs.Commands.{Asked, in_range, heard_as}
 use Rattle.reader.specs.Judged.{judged, judged_answer, judged_byte, judged_data, judged_page, fits, reads, sound_body, ◌>>=◌}
 use Rattle.reader.specs.Laws.{Answers, to_request, to_marker, to_attrib, to_halt, to_read, read_refused, to_write, write_refused}

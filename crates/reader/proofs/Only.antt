@@ -12,7 +12,7 @@ use Rattle.typeb.specs.Hears as hears
 use Rattle.typeb.specs.Hears.{Heard, head_of}
 use Rattle.typeb.proofs.Buffers.{length_sealed}
 use Rattle.kinds.specs.Says.{Says, Answer, Card, Page, Acknowledged, Refused, echo, reply_bytes}
-use Rattle.kinds.proofs.Lists.{listed}
+use Rattle.typeb.proofs.Parts.{listed}
 use Rattle.reader.specs.Commands.{Asked, Request, SlotMarker, Attrib, Halt, Read, Write, Lock, CheckPassword, Deselect, Count}
 use Rattle.reader.specs.Commands.{in_range, heard_as}
 use Rattle.reader.specs.Judged.{judged, judged_answer, judged_byte, judged_data, judged_page, judged_status, fits, reads, sound_body, ◌>>=◌}

@@ -1,5 +1,5 @@
 use Rattle.std.proofs.Common.{refl, rules}
-use Rattle.kinds.proofs.Lists.{listed}
+use Rattle.typeb.proofs.Parts.{listed}
 use Rattle.scenario.proofs.making.gauge_image.Goals as goal
 
 pub returns : goal.returns
