@@ -56,13 +56,7 @@ impl<B: Body> Linked<B> {
         match self.link.hear(told, serial, application) {
             Next::Silence => Response::of(None),
             Next::Say(said) => Response::of(Some(said)),
-            // obeyed by a copy, so that the compiler keeps in memory the tags alone that obey something
-            Next::Obey { op, address, bytes } => {
-                let mut tag = *self;
-                let response = B::obey(&mut tag, op, address, *bytes);
-                *self = tag;
-                response
-            }
+            Next::Obey { op, address, bytes } => B::obey(self, op, address, *bytes),
         }
     }
 }

@@ -1,7 +1,6 @@
 -- What the values of the code stand for.
-use Rattle.std.specs.Prelude.{◌≡◌, ℕ, ◌+◌, ◌*◌, ◌≤◌, Bool, true, List, [], ◌∷◌, map, take, drop, Some, None, Ok, Err, Option, Result, vec_items}
+use Rattle.std.specs.Prelude.{◌≡◌, ℕ, ◌+◌, ◌*◌, ◌≤◌, Bool, true, List, [], ◌∷◌, map, take, drop, Ok, Err, Result, vec_items}
 use Rattle.typeb.specs.Messages.{bytes_of}
-use Rattle.typeb.specs.declared.message.Message.{Message}
 use Rattle.kinds.specs.Kinds.{Meaning}
 use Rattle.tray_core.specs.declared.row.Row.{Row}
 use Rattle.tray_core.specs.declared.row.TooLong.{TooLong}
@@ -19,11 +18,6 @@ abbrev pub sounds_in : Sounds → sounds.Sounds
 sounds_in heard.Silence = sounds.Silence
 sounds_in (heard.Reply m) = sounds.Reply (bytes_of m)
 sounds_in (heard.Clash n) = sounds.Clash n
-
--- The reply of one tag, if it had one.
-abbrev pub reply_in : Option Message → sounds.Sounds
-reply_in (Some m) = sounds.Reply (bytes_of m)
-reply_in None = sounds.Silence
 
 -- How many answered.
 abbrev pub how_many : Sounds → ℕ

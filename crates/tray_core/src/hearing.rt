@@ -3,7 +3,7 @@ ghost use Rattle.std.specs.Prelude.{◌≡◌, ◌+◌, ◌≤◌};
 ghost use Rattle.typeb.specs.Receives.{on_air};
 ghost use Rattle.tray_core.specs.Rows.{hearing};
 ghost use Rattle.tray_core.specs.Sounds.{meet, voice};
-ghost use Rattle.tray_core.specs.Views.{sounds_in, how_many, reply_in};
+ghost use Rattle.tray_core.specs.Views.{sounds_in, how_many};
 
 use crate::sounds::Sounds;
 use kinds::kind::Kind;
@@ -26,19 +26,16 @@ pub(crate) fn meet_sounds(a: Sounds, b: Sounds) -> Sounds
     }
 }
 
-// One tag hears a frame: its reply, if it has one. The buffer is for the tag to write in.
-pub(crate) fn tell_tag<K: Kind>(
-    tag: &mut K,
-    frame: &Received<'_>,
-    buffer: &mut [u8; 16],
-) -> Option<Message>
+// One tag hears a frame; its reply, if it has one, joins what was heard so far.
+pub(crate) fn tell_tag<K: Kind>(tag: &mut K, frame: &Received<'_>, heard: &mut Sounds)
+    requires { how_many heard.old ≤ 64 }
     ensures after { K.means tag.new ≡ hearing K.acts (on_air frame.now) (K.means tag.old) }
-    ensures reply { reply_in result ≡ voice (K.acts.hears (on_air frame.now) (K.means tag.old)).reply }
+    ensures sounds { sounds_in heard.new ≡ meet (sounds_in heard.old) (voice (K.acts.hears (on_air frame.now) (K.means tag.old)).reply) }
+    ensures count { how_many heard.new ≤ how_many heard.old + 1 }
 {
-    let told = tag.hear(frame, buffer);
+    let mut bytes = [0u8; 16];
+    let told = tag.hear(frame, &mut bytes);
     if told.len > 0 {
-        Some(Message::front_of(*buffer, told.len))
-    } else {
-        None
+        *heard = meet_sounds(*heard, Sounds::Reply(Message::front_of(bytes, told.len)));
     }
 }

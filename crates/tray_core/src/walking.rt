@@ -5,7 +5,7 @@ ghost use Rattle.tray_core.specs.Rows.{powers, row_powers, row_hears, row_sounds
 ghost use Rattle.tray_core.specs.Sounds.{meet};
 ghost use Rattle.tray_core.specs.Views.{posts, sounds_in, how_many};
 
-use crate::hearing::{meet_sounds, tell_tag};
+use crate::hearing::tell_tag;
 use crate::sounds::Sounds;
 use kinds::kind::Kind;
 use typeb::received::Received;
@@ -23,18 +23,11 @@ pub(crate) fn hear_row<K: Kind>(
     ensures count { how_many result ≤ how_many before + 32 }
 {
     let mut heard = before;
-    let mut buffer = [0u8; 16];
     for i in 0..tags.len() {
         if present[i] {
             let mut tag = tags[i];
-            // A silent tag is stored back at once: so the compiler sees that it was hardly changed, and copies no memory.
-            match tell_tag(&mut tag, frame, &mut buffer) {
-                None => tags[i] = tag,
-                Some(reply) => {
-                    tags[i] = tag;
-                    heard = meet_sounds(heard, Sounds::Reply(reply));
-                }
-            }
+            tell_tag(&mut tag, frame, &mut heard);
+            tags[i] = tag;
         }
     }
     heard
