@@ -3,7 +3,6 @@
 
 ghost use Rattle.std.specs.Prelude.{◌≡◌, ℕ, List};
 ghost use Rattle.handling.specs.Laws.{Law};
-ghost use Rattle.handling.specs.Worked.{WorkedStocks};
 ghost use Rattle.tray_core.specs.Step.{Stepped, asks_of, step};
 ghost use Rattle.tray_core.specs.Steps.{Steps};
 ghost use Rattle.tray_core.specs.Trays.{Model};
@@ -18,8 +17,7 @@ use typeb::frames::Serial;
 // Takes any of the six calls, with a buffer and a list of its own. A refused call leaves tray, buffer and list as they were.
 // What refuses a call, what is heard and what it makes of every tag, in the subject's words: clause `steps`.
 // No sequence of calls shows what a closed tag hides, undoes a lock or loses a count: clause `runs`.
-// Four stocks worked out by hand: clause `worked`.
-#[tactic(auto, using(tray_core::proofs::Stepping::steps, crate::proofs::Worked::worked_stocks))]
+#[tactic(auto, using(tray_core::proofs::Stepping::steps))]
 pub fn handle<F: Kind, B: Kind>(
     tray: &mut Tray<F, B>,
     call: Call<&[u8]>,
@@ -29,7 +27,6 @@ pub fn handle<F: Kind, B: Kind>(
     ensures result { Stepped (step F.Kind.acts B.Kind.acts (asks_of call.entry) (model_of F.Kind.means B.Kind.means tray.old) buffer.old list.old) result (model_of F.Kind.means B.Kind.means tray.new) buffer.new list.new }
     ensures steps { (t : Model F.Kind.Shown F.Kind.Hidden B.Kind.Shown B.Kind.Hidden) (b : List ℕ) (l : List (List ℕ)) → Steps F.Kind.acts B.Kind.acts t b l }
     ensures runs { Law F.Kind.acts B.Kind.acts }
-    ensures worked { WorkedStocks }
 {
     match call {
         Call::On => tray.on(),

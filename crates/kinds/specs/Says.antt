@@ -21,7 +21,7 @@ pub data Says : Type 0 where
   -- not done (NACK), with the code that says why
   Refused : ℕ → Says
 
--- The protocol info of both kinds: 106 kbit/s only, frames of 16 bytes, no further protocol, card numbers supported.
+-- The protocol info of every tag here: 106 kbit/s only, frames of 16 bytes, no further protocol, card numbers supported.
 abbrev pub protocol_info : List ℕ
 protocol_info = 0x00 ∷ 0x00 ∷ 0x41 ∷ []
 

@@ -1,5 +1,5 @@
 // The commands of a reader, by their values.
-ghost use Rattle.std.specs.Prelude.{◌≡◌};
+ghost use Rattle.std.specs.Prelude.{◌≡◌, true};
 ghost use Rattle.typeb.specs.Hears as hears;
 ghost use Rattle.typeb.specs.Hears.{frame_of};
 ghost use Rattle.reader.specs.Commands.{Request, SlotMarker, Attrib, Halt, Read, Write, Lock, CheckPassword, Deselect, Count, asked_of};
@@ -58,8 +58,7 @@ pub enum Command<'a> {
     },
 }
 
-// A command from its values. `make` says whether they are in range. A caller may also write a variant in place: these
-// are the shorter form, with a clause that says what the command asks.
+// A command from its values; `make` says whether they are in range.
 impl<'a> Command<'a> {
     pub fn request(wake_up: bool, family: u8, slots: u8) -> Command<'a>
         ensures { asked_of result ≡ Request wake_up family slots }
@@ -159,13 +158,19 @@ impl<'a> Command<'a> {
                 let [s0, s1, s2, s3, s4, s5] = signature;
                 [s0, s1, s2, s3, s4, s5, 0, 0]
             }
-            _ => [0; 8],
+            Command::Request { .. }
+            | Command::SlotMarker { .. }
+            | Command::Attrib { .. }
+            | Command::Halt { .. }
+            | Command::Read { .. }
+            | Command::Deselect { .. } => [0; 8],
         }
     }
 
-    // The frame that carries the command, with its data bytes. Fields have the lengths of their types.
+    // The frame that carries a command in range, with its data bytes. Fields have the lengths of their types.
     pub(crate) fn frame(self, bytes: &'a [u8; 8]) -> Frame<'a>
-        requires { bytes.now ≡ data_of (heard_as (asked_of self)) }
+        requires data_bytes { bytes.now ≡ data_of (heard_as (asked_of self)) }
+        requires range { in_range (asked_of self) ≡ true }
         ensures heard { frame_of result ≡ heard_as (asked_of self.entry) }
         ensures sized { Sized (asked_of self.entry) }
     {
@@ -177,7 +182,7 @@ impl<'a> Command<'a> {
             } => Frame::Request {
                 family,
                 wake_up,
-                slots: Slots::from_count(slots).unwrap_or(Slots::One),
+                slots: Slots::from_count(slots).unwrap(),
             },
             Command::SlotMarker { slot } => Frame::SlotMarker { slot },
             Command::Attrib { serial, cid, inf } => Frame::Attrib {

@@ -19,7 +19,6 @@ use Rattle.sheet.specs.declared.lines.Line.{Line}
 use Rattle.sheet.specs.declared.lines.Line.TheVariants as line
 use Rattle.fields.specs.Fields.{number_of, bytes_in, draw_of}
 
-infixl 10 ◌>>=◌
 -- The words.
 abbrev pub word_of : List ℕ → Option Word
 word_of text =
@@ -48,6 +47,8 @@ pub data Says : Type 0 where
   Calls : calls.Asks → Says
 
 -- A field is read, and what follows takes its value; its fault is the line's.
+infixl 10 ◌>>=◌
+
 abbrev pub ◌>>=◌ : {A B : Type 0} → Result A FieldFault → (A → Result B LineFault) → Result B LineFault
 Ok value >>= next = next value
 Err why >>= next = Err (fault.Field why)

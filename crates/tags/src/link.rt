@@ -28,7 +28,7 @@ pub struct Link {
     pub draw: u16,
 }
 
-// What follows of a frame for a tag with such a link.
+// What comes of a frame for a tag with such a link.
 #[derive(Clone, Copy)]
 pub enum Next<'a> {
     // no reply
@@ -141,6 +141,7 @@ impl Link {
                 Next::Say(answer)
             }
             (State::Declared, Frame::Attrib { serial, params, .. }) if serial == own => {
+                // by its number: with an array pattern inside the variant the function gets no generated proof
                 self.cid = params[3] % 16;
                 self.state = State::Active;
                 Next::Say(Said::Card(self.cid))

@@ -44,7 +44,8 @@ pub(crate) fn power_tag<K: Kind>(tag: &mut K, on: bool)
     }
 }
 
-// Every tag on the tray gains power, or loses it.
+// Every tag on the tray gains power, or loses it. A walk of its own: the contract of one walk over a step that is passed in would
+// have to follow what the step gathers from tag to tag.
 pub(crate) fn power_row<K: Kind>(tags: &mut [K], present: &[bool; 32], on: bool)
     requires { length tags.old ≤ 32 }
     ensures { posts present.now (map K.means tags.new) ≡ row_powers K.acts on (posts present.now (map K.means tags.old)) }

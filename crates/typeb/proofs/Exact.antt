@@ -6,7 +6,7 @@ use Rattle.std.proofs.lemmas.Bool.{and_parts, cond_both, cond-true, eqb-true, eq
 use Rattle.std.proofs.lemmas.Bool.Decides.{nat_tests}
 use Rattle.std.proofs.lemmas.List.{drop_more, get_or-take, take-append-drop, drop-drop}
 use Rattle.typeb.specs.CheckBytes.{Bytes, sound, body_of}
-use Rattle.typeb.specs.Hears.{Heard, Request, SlotMarker, Attrib, Halt, Command, slot_code, slots_of, all_slots, op_code, op_of, all_ops, request_of, command_of, at, in_body, heard}
+use Rattle.typeb.specs.Hears.{SlotTable, Heard, Request, SlotMarker, Attrib, Halt, Command, slot_code, slots_of, all_slots, op_code, op_of, all_ops, request_of, command_of, at, in_body, heard}
 use Rattle.typeb.specs.Carries.{Carries, HearsExactly}
 use Rattle.typeb.proofs.Parts.{listed}
 use Rattle.typeb.proofs.Sealed.{format_in_body}
@@ -124,3 +124,7 @@ hears_exactly frame bytes =
       only = λ h e. when_sound (sound frame) (in_body (body_of frame)) (body_of frame) h (body_fits (body_of frame) (body_bytes frame bytes)) e;
       all = λ h s c. cond-true (sound frame) _ _ s ∙ ap in_body c.same ∙ format_in_body c.free h c.places;
     }
+
+-- the table of slots
+pub slot_table : SlotTable
+slot_table = record { numbers = refl; codes = refl }

@@ -1,5 +1,5 @@
 -- What a tag hears in a frame: the frame is taken apart by its first byte and its length.
-use Rattle.std.specs.Prelude.{◌≡◌, IfErr, Result, ℕ, ◌+◌, ◌*◌, ◌/◌, ◌%◌, ◌^◌, Bool, ◌&&◌, List, [], ◌∷◌, length, take, drop, Some, None, Option, option_map, if◌then◌else◌, ◌==◌, nat_le, nat_lt, slice_index}
+use Rattle.std.specs.Prelude.{◌≡◌, IfErr, Result, ℕ, ◌+◌, ◌*◌, ◌/◌, ◌%◌, ◌^◌, Bool, ◌&&◌, List, [], ◌∷◌, ◌++◌, map, length, take, drop, Some, None, Option, option_map, if◌then◌else◌, ◌==◌, nat_le, nat_lt, slice_index}
 use Rattle.std.specs.List.{find}
 use Rattle.std.specs.Result.{result_ok}
 use Rattle.typeb.specs.declared.frames.UnknownCode.{UnknownCode}
@@ -33,6 +33,12 @@ slots_of code = find (λ slots. code == slot_code slots) all_slots
 -- The slots that are N: none for a number that no request announces.
 abbrev pub slots_for : ℕ → Option Slots
 slots_for n = find (λ slots. slot_count slots == n) all_slots
+
+-- Codes 0 to 4 announce 1, 2, 4, 8 and 16 slots; 5, 6 and 7 none.
+pub record SlotTable : Type 0 where
+  pub numbers : map slot_count all_slots ≡ 1 ∷ 2 ∷ 4 ∷ 8 ∷ 16 ∷ []
+  pub codes : map slots_of (0 ∷ 1 ∷ 2 ∷ 3 ∷ 4 ∷ 5 ∷ 6 ∷ 7 ∷ [])
+      ≡ map Some all_slots ++ (None ∷ None ∷ None ∷ [])
 
 -- The high nibble of a data command's first byte.
 abbrev pub op_code : Op → ℕ

@@ -1,6 +1,6 @@
 // The reading of a frame.
 ghost use Rattle.std.specs.Prelude.{◌≡◌};
-ghost use Rattle.typeb.specs.Hears.{in_body, heard, reading_of};
+ghost use Rattle.typeb.specs.Hears.{in_body, heard, reading_of, SlotTable};
 ghost use Rattle.typeb.specs.Carries.{HearsExactly};
 
 use crate::crc::is_sound;
@@ -46,11 +46,13 @@ fn read_body(body: &[u8]) -> Option<Frame<'_>>
 }
 
 // What a tag hears in a frame; none where the frame is not heard.
-// It is exactly what the frame carries, as its sender put it together: clause `exact`.
-#[tactic(auto, unfolding(crate::specs::Hears::heard, crate::specs::CheckBytes::sound))]
+// It is exactly what the frame carries, as its sender put it together: clause `exact`. What the codes of a request stand for:
+// clause `slots`.
+#[tactic(auto, unfolding(crate::specs::Hears::heard, crate::specs::CheckBytes::sound), using(crate::proofs::Exact::slot_table))]
 pub fn read_frame(frame: &[u8]) -> Option<Frame<'_>>
     ensures result { reading_of result ≡ heard frame.now }
     ensures exact { HearsExactly frame.now }
+    ensures slots { SlotTable }
 {
     match frame {
         [body @ .., _, _] if is_sound(frame) => read_body(body),
