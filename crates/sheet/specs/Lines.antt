@@ -48,7 +48,6 @@ pub data Says : Type 0 where
 
 -- A field is read, and what follows takes its value; its fault is the line's.
 infixl 10 ◌>>=◌
-
 abbrev pub ◌>>=◌ : {A B : Type 0} → Result A FieldFault → (A → Result B LineFault) → Result B LineFault
 Ok value >>= next = next value
 Err why >>= next = Err (fault.Field why)
