@@ -7,5 +7,7 @@ pub mod Locks
 pub mod Moves
 pub mod Asked
 pub mod Staying
+pub mod LinkLawful
+pub mod GoingBy
 pub mod Conducts
 pub mod GaugeConducts
