@@ -14,9 +14,9 @@ use Rattle.tags.specs.declared.link.State.{State}
 use Rattle.tags.specs.declared.link.State.TheVariants.{Off, Idle, Requested, Declared, Halted, Active}
 use Rattle.kinds.specs.Kinds.{Meaning}
 use Rattle.kinds.specs.Says.{Says, Answer, Card, Acknowledged, protocol_info}
-use Rattle.kinds.specs.Reacts.{Reaction, unmoved, replies}
+use Rattle.kinds.specs.Reacts.{Reaction, unmoved, replies, answered}
 use Rattle.tags.specs.Common.{Shown, by_link, reacts_by, acts_by}
-use Rattle.tags.specs.Links.{LinkHears, hears_marker, requested, moved, dismissed, listens, powered, is_declared, is_active, answers_to}
+use Rattle.tags.specs.Links.{LinkHears, drawn, hears_marker, requested, moved, dismissed, listens, powered, is_declared, is_active, answers_to}
 use Rattle.tags.specs.Links as links
 use Rattle.tags.specs.Pages.{serial_in, application_in}
 use Rattle.tags.specs.LinkLaws.{LinkLaws, Deafness, Requests, Markers, Selection, Power, DrawsSlot, Draws, OwnBytes, atqb_of, passes_by, not_declared, in_state, selected, silently, drawn_to}
@@ -48,7 +48,7 @@ differ xs ys apart =
     (cases_Bool (bytes_eq xs ys))
 
 -- the slot and the next draw number that are drawn
-draws : (n draw : ℕ) → 0 < n → Draws n draw (1 + draw / 4096 % n) ((draw * 25173 + 13849) % 65536)
+pub draws : (n draw : ℕ) → 0 < n → Draws n draw (1 + draw / 4096 % n) ((draw * 25173 + 13849) % 65536)
 draws n draw some =
     record {
       top = draw / 4096;
@@ -63,6 +63,13 @@ draws n draw some =
       sixteen_bits = omega arith;
       follows = omega arith;
     }
+
+pub draws_of : (slots : Slots) (draw : ℕ) → Draws (slot_count slots) draw (drawn draw (slot_count slots)).0 (drawn draw (slot_count slots)).1
+draws_of One draw = draws 1 draw (omega arith)
+draws_of Two draw = draws 2 draw (omega arith)
+draws_of Four draw = draws 4 draw (omega arith)
+draws_of Eight draw = draws 8 draw (omega arith)
+draws_of Sixteen draw = draws 16 draw (omega arith)
 
 -- by the state: who hears a request, a marker, and the rest
 listening : (family : ℕ) (wake_up : Bool) (slots : Slots) (s : State) → passes_by (Request family wake_up slots) s ≡ false → listens s wake_up ≡ true
@@ -145,8 +152,8 @@ module _ {H : Type 0} (m : Meaning Shown H) where
   linked : (h g : LinkHears) → h ≡ g → by_link h m ≡ by_link g m
   linked h g same = ap (λ (l : LinkHears). by_link l m) same
 
-  answered : (n : Meaning Shown H) (own : OwnBytes m.shown.pages) → replies n answer ≡ replies n (atqb_of own)
-  answered n own = ap (replies n) (answer_is m.shown.pages own)
+  own_answer : (n : Meaning Shown H) (own : OwnBytes m.shown.pages) → replies n answer ≡ replies n (atqb_of own)
+  own_answer n own = ap (replies n) (answer_is m.shown.pages own)
 
   draws_slot : (n : ℕ) → 0 < n → eqb n 1 ≡ false → DrawsSlot n m (by_link (requested answer n link) m)
   draws_slot n some several =
@@ -159,7 +166,7 @@ module _ {H : Type 0} (m : Meaning Shown H) where
         slot = slot;
         next = next;
         draws = draws n link.draw some;
-        first = λ e own. is ∙ ap (λ (b : Bool). by_link (by b) m) (eq-eqb slot 1 e) ∙ answered (drawn_to Declared next m) own;
+        first = λ e own. is ∙ ap (λ (b : Bool). by_link (by b) m) (eq-eqb slot 1 e) ∙ own_answer (drawn_to Declared next m) own;
         waits = λ e. is ∙ ap (λ (b : Bool). by_link (by b) m) (ne_eqb slot 1 e);
       }
 
@@ -223,7 +230,7 @@ module _ {H : Type 0} (obeys : Op → ℕ → List ℕ → Meaning Shown H → R
   requests =
       record {
         as_in_idle = as_in_idle;
-        one_slot = λ m own. answered m (in_state Declared m) own;
+        one_slot = λ m own. own_answer m (in_state Declared m) own;
         more_slots = more_slots;
         other_family = other_family;
         other_family_halted = other_family_halted;
@@ -233,7 +240,7 @@ module _ {H : Type 0} (obeys : Op → ℕ → List ℕ → Meaning Shown H → R
       → reacts_by obeys (SlotMarker slot) m ≡ replies (in_state Declared m) (atqb_of own)
   own_slot slot m own waits =
       linked m _ _ (ap (hears_marker (answer m) slot m.shown.link) waits ∙ cond-true (eqb slot slot) _ _ (eq-eqb slot slot refl))
-      ∙ answered m (in_state Declared m) own
+      ∙ own_answer m (in_state Declared m) own
 
   markers : Markers obeys
   markers =
@@ -301,6 +308,11 @@ module _ {H : Type 0} (obeys : Op → ℕ → List ℕ → Meaning Shown H → R
   pub link_laws : LinkLaws obeys
   link_laws =
       record {
+        on_air =
+            record {
+              told = λ f frame m e. ap (answered (reacts_by obeys) m) e;
+              unheard = λ f m e. ap (answered (reacts_by obeys) m) e;
+            };
         deafness = deafness;
         requests = requests;
         markers = markers;

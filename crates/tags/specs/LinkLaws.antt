@@ -1,14 +1,14 @@
 -- The laws of the link: what every kind of tag does with power, and with every frame but the data commands that it
 -- obeys. They stand above the definitions and hold of every tag, in every state.
-use Rattle.std.specs.Prelude.{◌≡◌, ◌≢◌, ℕ, ◌+◌, ◌*◌, ◌<◌, ◌≤◌, Bool, true, false, not, List, [], ◌∷◌, ◌++◌, length, None, ◌==◌}
+use Rattle.std.specs.Prelude.{◌≡◌, ◌≢◌, ℕ, ◌+◌, ◌*◌, ◌<◌, ◌≤◌, Bool, true, false, not, List, [], ◌∷◌, ◌++◌, length, Some, None, ◌==◌}
 use Rattle.typeb.specs.declared.frames.Op.{Op}
 use Rattle.typeb.specs.declared.frames.Slots.{Slots}
 use Rattle.typeb.specs.declared.frames.Slots.TheVariants.{One}
-use Rattle.typeb.specs.Hears.{Heard, Request, SlotMarker, Attrib, Halt, Command, slot_count}
+use Rattle.typeb.specs.Hears.{Heard, Request, SlotMarker, Attrib, Halt, Command, heard, slot_count}
 use Rattle.tags.specs.declared.link.State.{State}
 use Rattle.tags.specs.declared.link.State.TheVariants.{Off, Idle, Requested, Declared, Halted, Active}
 use Rattle.kinds.specs.Kinds.{Meaning, Behaviour}
-use Rattle.kinds.specs.Says.{Says, Answer, Card, Acknowledged}
+use Rattle.kinds.specs.Says.{Says, Answer, Card, Acknowledged, reply_bytes}
 use Rattle.kinds.specs.Reacts.{Reaction, unmoved, replies}
 use Rattle.tags.specs.Common.{Shown, with_link, reacts_by, acts_by}
 
@@ -177,8 +177,22 @@ module _ {H : Type 0} where
       pub other_card : (op : Op) (cid address : ℕ) (bytes : List ℕ) (m : Meaning Shown H)
           → cid ≢ m.shown.link.cid → reacts_by obeys (Command op cid address bytes) m ≡ unmoved m
 
+    -- What a tag does with the bytes of a frame it does with what is heard in them. A frame in which nothing is heard
+    -- meets silence and changes nothing.
+    pub record OnAir : Type 0 where
+      pub told : (f : List ℕ) (frame : Heard) (m : Meaning Shown H) → heard f ≡ Some frame
+          → (acts_by obeys).hears f m
+          ≡ record {
+            after = (reacts_by obeys frame m).after;
+            reply = reply_bytes frame (reacts_by obeys frame m).says;
+            accepted = (reacts_by obeys frame m).accepted;
+          }
+      pub unheard : (f : List ℕ) (m : Meaning Shown H) → heard f ≡ None
+          → (acts_by obeys).hears f m ≡ record { after = m; reply = []; accepted = false }
+
     -- All of these.
     pub record LinkLaws : Type 0 where
+      pub on_air : OnAir
       pub deafness : Deafness
       pub requests : Requests
       pub markers : Markers
