@@ -7,6 +7,7 @@ pub mod Locks
 pub mod Moves
 pub mod Asked
 pub mod Staying
+pub mod LinkStates
 pub mod LinkLawful
 pub mod GoingBy
 pub mod Conducts

@@ -3,7 +3,7 @@ use Rattle.std.proofs.Common.{◌≡◌, ℕ, ◌+◌, ◌*◌, ◌/◌, ◌%◌
 use Rattle.std.specs.Str.{bytes_eq}
 use Rattle.std.proofs.Math.Bool.{and-false}
 use Rattle.std.proofs.lemmas.List.{take_at, drop_at, length-append}
-use Rattle.std.proofs.lemmas.Bool.{cond-true, cond-false, cases_Bool, false≢true, ne_eqb, eq-eqb, le-leb, lt-leb, not-true}
+use Rattle.std.proofs.lemmas.Bool.{cond-true, cond-false, cases_Bool, ne_eqb, eq-eqb, le-leb, lt-leb}
 use Rattle.std.proofs.lemmas.Slice.Eq.{bytes_eq-Decides}
 use Rattle.typeb.specs.declared.frames.Op.{Op}
 use Rattle.typeb.specs.declared.frames.Slots.{Slots}
@@ -11,7 +11,7 @@ use Rattle.typeb.specs.declared.frames.Slots.TheVariants.{One, Two, Four, Eight,
 use Rattle.typeb.specs.Hears.{Request, SlotMarker, Attrib, Halt, Command, slot_count}
 use Rattle.tags.specs.declared.link.Link.{Link}
 use Rattle.tags.specs.declared.link.State.{State}
-use Rattle.tags.specs.declared.link.State.TheVariants.{Off, Idle, Requested, Declared, Halted, Active}
+use Rattle.tags.specs.declared.link.State.TheVariants.{Idle, Requested, Declared, Halted, Active}
 use Rattle.kinds.specs.Kinds.{Meaning}
 use Rattle.kinds.specs.Says.{Says, Answer, Card, Acknowledged, protocol_info}
 use Rattle.kinds.specs.Reacts.{Reaction, unmoved, replies, answered}
@@ -19,7 +19,8 @@ use Rattle.tags.specs.Common.{Shown, by_link, reacts_by, acts_by}
 use Rattle.tags.specs.Links.{LinkHears, drawn, hears_marker, requested, moved, dismissed, listens, powered, is_declared, is_active, answers_to}
 use Rattle.tags.specs.Links as links
 use Rattle.tags.specs.Pages.{serial_in, application_in}
-use Rattle.tags.specs.LinkLaws.{LinkLaws, Deafness, Requests, Markers, Selection, Power, DrawsSlot, Draws, OwnBytes, atqb_of, passes_by, not_declared, in_state, selected, silently, drawn_to}
+use Rattle.tags.proofs.LinkStates.{listening, not_listening, dismissed_idle, not_its_slot, not_waiting, not_declared_lem, not_active, stays_on}
+use Rattle.tags.specs.LinkLaws.{LinkLaws, Deafness, Requests, Markers, Selection, Power, DrawsSlot, Draws, OwnBytes, atqb_of, passes_by, in_state, selected, silently, drawn_to}
 
 -- what a tag names itself by stands at the front of its pages
 serial_is : (pages : List ℕ) (own : OwnBytes pages) → serial_in pages ≡ own.serial
@@ -70,73 +71,6 @@ draws_of Two draw = draws 2 draw (omega arith)
 draws_of Four draw = draws 4 draw (omega arith)
 draws_of Eight draw = draws 8 draw (omega arith)
 draws_of Sixteen draw = draws 16 draw (omega arith)
-
--- by the state: who hears a request, a marker, and the rest
-listening : (family : ℕ) (wake_up : Bool) (slots : Slots) (s : State) → passes_by (Request family wake_up slots) s ≡ false → listens s wake_up ≡ true
-listening family wake_up slots Off h = absurd (false≢true (sym h))
-listening family wake_up slots Idle h = refl
-listening family wake_up slots (Requested slot) h = refl
-listening family wake_up slots Declared h = refl
-listening family true slots Halted h = refl
-listening family false slots Halted h = absurd (false≢true (sym h))
-listening family wake_up slots Active h = absurd (false≢true (sym h))
-
-not_listening : (family : ℕ) (wake_up : Bool) (slots : Slots) (s : State) → passes_by (Request family wake_up slots) s ≡ true → listens s wake_up ≡ false
-not_listening family wake_up slots Off h = refl
-not_listening family wake_up slots Idle h = absurd (false≢true h)
-not_listening family wake_up slots (Requested slot) h = absurd (false≢true h)
-not_listening family wake_up slots Declared h = absurd (false≢true h)
-not_listening family true slots Halted h = absurd (false≢true h)
-not_listening family false slots Halted h = refl
-not_listening family wake_up slots Active h = refl
-
-dismissed_idle : (s : State) → (s ≡ Halted → ⊥) → dismissed s ≡ Idle
-dismissed_idle Off h = refl
-dismissed_idle Idle h = refl
-dismissed_idle (Requested slot) h = refl
-dismissed_idle Declared h = refl
-dismissed_idle Halted h = absurd (h refl)
-dismissed_idle Active h = refl
-
-not_its_slot : (answer : Says) (slot : ℕ) (link : Link) (s : State) → (s ≡ Requested slot → ⊥) → hears_marker answer slot link s ≡ links.unmoved link
-not_its_slot answer slot link Off h = refl
-not_its_slot answer slot link Idle h = refl
-not_its_slot answer slot link (Requested own) h = cond-false (eqb own slot) _ _ (ne_eqb own slot (λ e. h (ap Requested e)))
-not_its_slot answer slot link Declared h = refl
-not_its_slot answer slot link Halted h = refl
-not_its_slot answer slot link Active h = refl
-
-not_waiting : (answer : Says) (slot : ℕ) (link : Link) (s : State) → passes_by (SlotMarker slot) s ≡ true → hears_marker answer slot link s ≡ links.unmoved link
-not_waiting answer slot link Off h = refl
-not_waiting answer slot link Idle h = refl
-not_waiting answer slot link (Requested own) h = cond-false (eqb own slot) _ _ (not-true (eqb own slot) h)
-not_waiting answer slot link Declared h = refl
-not_waiting answer slot link Halted h = refl
-not_waiting answer slot link Active h = refl
-
-not_declared_lem : (s : State) → not_declared s ≡ true → is_declared s ≡ false
-not_declared_lem Off h = refl
-not_declared_lem Idle h = refl
-not_declared_lem (Requested slot) h = refl
-not_declared_lem Declared h = absurd (false≢true h)
-not_declared_lem Halted h = refl
-not_declared_lem Active h = refl
-
-not_active : (op : Op) (cid address : ℕ) (bytes : List ℕ) (s : State) → passes_by (Command op cid address bytes) s ≡ true → is_active s ≡ false
-not_active op cid address bytes Off h = refl
-not_active op cid address bytes Idle h = refl
-not_active op cid address bytes (Requested slot) h = refl
-not_active op cid address bytes Declared h = refl
-not_active op cid address bytes Halted h = refl
-not_active op cid address bytes Active h = absurd (false≢true h)
-
-stays_on : (s : State) → (s ≡ Off → ⊥) → powered s ≡ s
-stays_on Off h = absurd (h refl)
-stays_on Idle h = refl
-stays_on (Requested slot) h = refl
-stays_on Declared h = refl
-stays_on Halted h = refl
-stays_on Active h = refl
 
 same_twice : {A : Type 0} (b : Bool) (x : A) → cond b x x ≡ x
 same_twice true x = refl

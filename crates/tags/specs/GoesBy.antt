@@ -1,4 +1,5 @@
--- What a tag goes by: of two frames that agree on what their command names, it does not tell one from the other.
+-- What a tag goes by: of two frames that agree on what their command names, it does not tell one
+-- from the other.
 use Rattle.std.specs.Prelude.{◌≡◌, ℕ, ◌+◌, ◌*◌, ◌<◌, ◌≤◌, Bool, List, [], ◌∷◌, Some}
 use Rattle.typeb.specs.declared.frames.Op.{Op}
 use Rattle.typeb.specs.declared.frames.Op.TheVariants.{Read, Write, Lock, CheckPassword, Deselect, Count}
@@ -19,7 +20,8 @@ pub data Agree : Heard → Heard → Type 0 where
   -- slot markers: the slot
   SameMarker : (slot : ℕ) → Agree (SlotMarker slot) (SlotMarker slot)
   -- ATTRIB: the serial number and the low nibble of PARAM4
-  SameAttrib : (serial : List ℕ) (p q r s t u high higher card : ℕ) (inf others : List ℕ) → card < 16
+  SameAttrib : (serial : List ℕ) (p q r s t u high higher card : ℕ) (inf others : List ℕ)
+      → card < 16
       → Agree (Attrib serial (p ∷ q ∷ r ∷ (16 * high + card) ∷ []) inf)
       (Attrib serial (s ∷ t ∷ u ∷ (16 * higher + card) ∷ []) others)
   -- HLTB: the serial number
@@ -32,7 +34,8 @@ pub data Agree : Heard → Heard → Type 0 where
       → Agree (Command Write cid (32 * j + page) bytes) (Command Write cid (32 * k + page) bytes)
   -- LOCK: data bytes 4 to 7
   SameLock : (cid j k a b c d e f g h : ℕ) (locks : List ℕ)
-      → Agree (Command Lock cid j (a ∷ b ∷ c ∷ d ∷ locks)) (Command Lock cid k (e ∷ f ∷ g ∷ h ∷ locks))
+      → Agree (Command Lock cid j (a ∷ b ∷ c ∷ d ∷ locks))
+      (Command Lock cid k (e ∷ f ∷ g ∷ h ∷ locks))
   -- CHECK PASSWORD: the eight bytes
   SameCheck : (cid j k : ℕ) (bytes : List ℕ)
       → Agree (Command CheckPassword cid j bytes) (Command CheckPassword cid k bytes)
@@ -44,8 +47,10 @@ pub data Agree : Heard → Heard → Type 0 where
       → Agree (Command Count cid j (a ∷ b ∷ c ∷ d ∷ e ∷ f ∷ rest))
       (Command Count cid k (a ∷ b ∷ c ∷ d ∷ e ∷ f ∷ others))
 
--- Two such frames leave every tag the same, bring the same bytes, and are both accepted checks or neither.
-abbrev pub GoesBy : {H : Type 0} → (Op → ℕ → List ℕ → Meaning Shown H → Reaction (Meaning Shown H)) → Type 0
+-- Two such frames leave every tag the same, bring the same bytes, and are both accepted checks or
+-- neither.
+abbrev pub GoesBy : {H : Type 0}
+    → (Op → ℕ → List ℕ → Meaning Shown H → Reaction (Meaning Shown H)) → Type 0
 GoesBy {H} obeys =
     (f g : List ℕ) (a b : Heard) (m : Meaning Shown H)
     → heard f ≡ Some a → heard g ≡ Some b → Agree a b

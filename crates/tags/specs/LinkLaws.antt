@@ -1,5 +1,6 @@
--- The laws of the link: what every kind of tag does with power, and with every frame but the data commands that it
--- obeys. They stand above the definitions and hold of every tag, in every state.
+-- The laws of the link: what every kind of tag does with power, and with every frame but the
+-- data commands that it obeys. They stand above the definitions and hold of every tag, in every
+-- state.
 use Rattle.std.specs.Prelude.{◌≡◌, ◌≢◌, ℕ, ◌+◌, ◌*◌, ◌<◌, ◌≤◌, Bool, true, false, not, List, [], ◌∷◌, ◌++◌, length, Some, None, ◌==◌}
 use Rattle.typeb.specs.declared.frames.Op.{Op}
 use Rattle.typeb.specs.declared.frames.Slots.{Slots}
@@ -12,8 +13,9 @@ use Rattle.kinds.specs.Says.{Says, Answer, Card, Acknowledged, reply_bytes}
 use Rattle.kinds.specs.Reacts.{Reaction, unmoved, replies}
 use Rattle.tags.specs.Common.{Shown, with_link, reacts_by, acts_by}
 
--- The frames that pass a tag by, in each state: requests pass by off and active tags, and REQB halted ones; a marker
--- concerns only a tag that waits for its slot, ATTRIB and HLTB only a declared one, data commands only an active one.
+-- The frames that pass a tag by, in each state: requests pass by off and active tags, and REQB
+-- halted ones; a marker concerns only a tag that waits for its slot, ATTRIB and HLTB only a
+-- declared one, data commands only an active one.
 abbrev pub not_declared : State → Bool
 not_declared Off = true
 not_declared Idle = true
@@ -44,7 +46,8 @@ passes_by (Command op cid address bytes) Declared = true
 passes_by (Command op cid address bytes) Halted = true
 passes_by (Command op cid address bytes) Active = false
 
--- The pages of a tag from their first byte: serial number, lock bits, application data, and what follows.
+-- The pages of a tag from their first byte: serial number, lock bits, application data, and what
+-- follows.
 pub record OwnBytes (pages : List ℕ) : Type 0 where
   pub serial : List ℕ
   pub locks : List ℕ
@@ -59,8 +62,9 @@ pub record OwnBytes (pages : List ℕ) : Type 0 where
 abbrev pub atqb_of : {pages : List ℕ} → OwnBytes pages → Says
 atqb_of own = Answer own.serial own.application (0x00 ∷ 0x00 ∷ 0x41 ∷ [])
 
--- The draw of a slot of n. Without its lowest twelve bits the draw number counts on from slot 1, round and round over
--- the n slots. The next draw number is 25173 times the old one and 13849 more, less whole multiples of 65536.
+-- One of n slots is drawn, from 1 to n. It is one more than what the draw number is without its
+-- lowest twelve bits, less whole multiples of n. The next draw number is 25173 times the old one
+-- and 13849 more, less whole multiples of 65536.
 pub record Draws (n draw slot next : ℕ) : Type 0 where
   pub top : ℕ
   pub low : ℕ
@@ -75,13 +79,15 @@ pub record Draws (n draw slot next : ℕ) : Type 0 where
   pub follows : next + 65536 * carry ≡ 25173 * draw + 13849
 
 module _ {H : Type 0} where
-  -- A tag in another state, all else as it was; one with another draw number too; one with another card number.
+  -- A tag in another state, all else as it was; one with another draw number too; an active one
+  -- with another card number.
   abbrev pub in_state : State → Meaning Shown H → Meaning Shown H
   in_state state m =
       with_link (record { state = state; cid = m.shown.link.cid; draw = m.shown.link.draw }) m
 
   abbrev pub drawn_to : State → ℕ → Meaning Shown H → Meaning Shown H
-  drawn_to state draw m = with_link (record { state = state; cid = m.shown.link.cid; draw = draw }) m
+  drawn_to state draw m =
+      with_link (record { state = state; cid = m.shown.link.cid; draw = draw }) m
 
   abbrev pub selected : ℕ → Meaning Shown H → Meaning Shown H
   selected cid m = with_link (record { state = Active; cid = cid; draw = m.shown.link.draw }) m
@@ -106,7 +112,8 @@ module _ {H : Type 0} where
     pub card : n.shown.link.cid ≡ m.shown.link.cid
     pub draw : n.shown.link.draw ≡ m.shown.link.draw
 
-  -- Power. A tag that loses it is off and closed. One that gains it is idle where it was off; another stays as it was.
+  -- Power. A tag that loses it is off and closed. One that gains it is idle where it was off, and
+  -- stays as it was where it was not.
   pub record Power (acts : Behaviour Shown H) (m : Meaning Shown H) : Type 0 where
     pub off : (acts.loses m).shown.link.state ≡ Off
     pub closed : (acts.loses m).opened ≡ false
@@ -125,7 +132,8 @@ module _ {H : Type 0} where
 
     -- Requests, where they do not pass the tag by.
     pub record Requests : Type 0 where
-      -- Of family 0 or 1, REQB or WUPB: whatever the tag waited for or was, it does what it would do in idle.
+      -- Of family 0 or 1, REQB or WUPB: whatever the tag waited for or was, it does what it would
+      -- do in idle.
       pub as_in_idle : (family : ℕ) (wake_up : Bool) (slots : Slots) (m : Meaning Shown H)
           → family < 2 → passes_by (Request family wake_up slots) m.shown.link.state ≡ false
           → reacts_by obeys (Request family wake_up slots) m
@@ -146,7 +154,8 @@ module _ {H : Type 0} where
           → 2 ≤ family → m.shown.link.state ≡ Halted
           → reacts_by obeys (Request family wake_up slots) m ≡ unmoved m
 
-    -- A marker is answered by a tag that waits for its slot, and by no other, whatever its number.
+    -- A marker is answered by a tag that waits for its slot, and changes no other, whatever its
+    -- number.
     pub record Markers : Type 0 where
       pub own_slot : (slot : ℕ) (m : Meaning Shown H) (own : OwnBytes m.shown.pages)
           → m.shown.link.state ≡ Requested slot
@@ -154,31 +163,36 @@ module _ {H : Type 0} where
       pub other_slot : (slot : ℕ) (m : Meaning Shown H) → m.shown.link.state ≢ Requested slot
           → reacts_by obeys (SlotMarker slot) m ≡ unmoved m
 
-    -- ATTRIB and HLTB for a declared tag's own serial number are obeyed, those for another change nothing.
+    -- ATTRIB and HLTB for a declared tag's own serial number are obeyed, those for another change
+    -- nothing.
     pub record Selection : Type 0 where
-      -- The low nibble of PARAM4, from 0 to 15, is the card number. Nothing else of PARAM1 to PARAM4 and INF matters.
-      pub attrib : (p q r high card : ℕ) (inf : List ℕ) (m : Meaning Shown H) (own : OwnBytes m.shown.pages)
-          → m.shown.link.state ≡ Declared → card < 16
+      -- The low nibble of PARAM4, from 0 to 15, is the card number. Nothing else of PARAM1 to
+      -- PARAM4 and INF matters.
+      pub attrib : (p q r high card : ℕ) (inf : List ℕ) (m : Meaning Shown H)
+          → (own : OwnBytes m.shown.pages) → m.shown.link.state ≡ Declared → card < 16
           → reacts_by obeys (Attrib own.serial (p ∷ q ∷ r ∷ (16 * high + card) ∷ []) inf) m
           ≡ replies (selected card m) (Card card)
-      pub hltb : (m : Meaning Shown H) (own : OwnBytes m.shown.pages) → m.shown.link.state ≡ Declared
+      pub hltb : (m : Meaning Shown H) (own : OwnBytes m.shown.pages)
+          → m.shown.link.state ≡ Declared
           → reacts_by obeys (Halt own.serial) m ≡ replies (in_state Halted m) Acknowledged
-      pub other_attrib : (named params inf : List ℕ) (m : Meaning Shown H) (own : OwnBytes m.shown.pages)
-          → named ≢ own.serial → reacts_by obeys (Attrib named params inf) m ≡ unmoved m
+      pub other_attrib : (named params inf : List ℕ) (m : Meaning Shown H)
+          → (own : OwnBytes m.shown.pages) → named ≢ own.serial
+          → reacts_by obeys (Attrib named params inf) m ≡ unmoved m
       pub other_hltb : (named : List ℕ) (m : Meaning Shown H) (own : OwnBytes m.shown.pages)
           → named ≢ own.serial → reacts_by obeys (Halt named) m ≡ unmoved m
 
-    -- An active tag obeys the data commands with its own card number, of an address the low five bits; those with
-    -- another number change nothing.
+    -- An active tag obeys the data commands with its own card number, of an address the low five
+    -- bits; those with another number change nothing.
     pub record Addressing : Type 0 where
       pub own_card : (op : Op) (turns page : ℕ) (bytes : List ℕ) (m : Meaning Shown H)
           → m.shown.link.state ≡ Active → page < 32
-          → reacts_by obeys (Command op m.shown.link.cid (32 * turns + page) bytes) m ≡ obeys op page bytes m
+          → reacts_by obeys (Command op m.shown.link.cid (32 * turns + page) bytes) m
+          ≡ obeys op page bytes m
       pub other_card : (op : Op) (cid address : ℕ) (bytes : List ℕ) (m : Meaning Shown H)
           → cid ≢ m.shown.link.cid → reacts_by obeys (Command op cid address bytes) m ≡ unmoved m
 
-    -- What a tag does with the bytes of a frame it does with what is heard in them. A frame in which nothing is heard
-    -- meets silence and changes nothing.
+    -- What a tag does with the bytes of a frame it does with what is heard in them. A frame in which
+    -- nothing is heard meets silence and changes nothing.
     pub record OnAir : Type 0 where
       pub told : (f : List ℕ) (frame : Heard) (m : Meaning Shown H) → heard f ≡ Some frame
           → (acts_by obeys).hears f m
