@@ -6,7 +6,8 @@ use Rattle.tray_core.specs.declared.calls.Answer.{Answer}
 use Rattle.tray_core.specs.Rows.{Post, row_sounds}
 use Rattle.tray_core.specs.Sounds.{Sounds, Silence, Reply, meet, voice, audible, count_replies}
 use Rattle.tray_core.specs.Step.{Asks, On, Off, Place, Lift, Frame, Stock, Outcome, heard_answer, heard_buffer, own_question, refused_by, unless_refused, step}
-use Rattle.tray_core.specs.Steps.{Steps, replies_in, replies, Fit, Named}
+use Rattle.tray_core.specs.Replies.{replies_in, replies}
+use Rattle.tray_core.specs.Steps.{Steps, Fit, Named}
 use Rattle.tray_core.specs.Trays.{Model, rows_fit, in_front, in_back, names, sounds_of}
 use Rattle.tray_core.proofs.Meets.{grouping, one_more}
 use Rattle.tray_core.proofs.Places.{front_rowed, back_rowed, done_at, field_done}
@@ -118,7 +119,7 @@ module _ {SF HF SB HB : Type 0} (F : Behaviour SF HF) (B : Behaviour SB HB) (t :
   heard_so false frame = refl
 
   -- answer and buffer of Frame, by the replies
-  module _ (fit : Fit F B t buffer list) (room : 16 ≤ length buffer) (frame : List ℕ) (all : List (List ℕ)) (are : replies F B t buffer list frame ≡ all) where
+  module _ (fit : Fit F B t buffer list) (room : 16 ≤ length buffer) (frame : List ℕ) (all : List (List ℕ)) (are : replies F B t frame ≡ all) where
     is : sounds_of F B frame t ≡ count_replies all
     is = heard_so t.field frame ∙ ap count_replies are
 
