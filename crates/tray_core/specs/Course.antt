@@ -92,7 +92,7 @@ sent_in frames [] = []
 
 abbrev pub sent_from : Bool → List (List Slot) → List (List ℕ)
 sent_from wakes [] = []
-sent_from wakes (round ∷ rounds) = sent_in (slot_frames wakes) round ++ sent_from false rounds
+sent_from wakes (one ∷ rounds) = sent_in (slot_frames wakes) one ++ sent_from false rounds
 
 -- The slots of a round with two replies or more.
 abbrev pub clashes_in : List Slot → ℕ
@@ -104,8 +104,8 @@ clashes_in (Heard serial ∷ slots) = clashes_in slots
 
 abbrev pub last_clashes : List (List Slot) → ℕ
 last_clashes [] = 0
-last_clashes (round ∷ []) = clashes_in round
-last_clashes (round ∷ (next ∷ rounds)) = last_clashes (next ∷ rounds)
+last_clashes (one ∷ []) = clashes_in one
+last_clashes (one ∷ (next ∷ rounds)) = last_clashes (next ∷ rounds)
 
 -- The serial numbers that were heard, in order, each as often as it was heard.
 abbrev pub serials_in : List Slot → List (List ℕ)
@@ -117,7 +117,7 @@ serials_in (Heard serial ∷ slots) = serial ∷ serials_in slots
 
 abbrev pub all_serials : List (List Slot) → List (List ℕ)
 all_serials [] = []
-all_serials (round ∷ rounds) = serials_in round ++ all_serials rounds
+all_serials (one ∷ rounds) = serials_in one ++ all_serials rounds
 
 -- A value among those of a list.
 abbrev pub Among : List ℕ → List (List ℕ) → Type 0
