@@ -10,3 +10,4 @@ pub mod Stocked
 pub mod Tallies
 pub mod Places
 pub mod Stepping
+pub mod Listing
