@@ -11,3 +11,4 @@ pub mod Tallies
 pub mod Places
 pub mod Stepping
 pub mod Listing
+pub mod Framed
