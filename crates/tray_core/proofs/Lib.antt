@@ -12,3 +12,4 @@ pub mod Places
 pub mod Stepping
 pub mod Listing
 pub mod Framed
+pub mod Determined
