@@ -4,6 +4,7 @@ use Rattle.std.specs.Option.{option_map}
 use Rattle.kinds.specs.Kinds.{Behaviour}
 use Rattle.tray_core.specs.declared.calls.Answer.{Answer}
 use Rattle.tray_core.specs.declared.calls.Answer.TheVariants as answer
+use Rattle.tray_core.specs.Course.{Stocktakes}
 use Rattle.tray_core.specs.Replies.{replies}
 use Rattle.tray_core.specs.Rows.{Post}
 use Rattle.tray_core.specs.Step.{Asks, On, Off, Place, Lift, Frame, Stock, Outcome, step}
@@ -63,3 +64,5 @@ module _ {SF HF SB HB : Type 0} (F : Behaviour SF HF) (B : Behaviour SB HB) (t :
     -- Only Frame writes into the buffer, and only Stock into the list.
     pub buffer_kept : (c : Asks) → ((frame : List ℕ) → c ≢ Frame frame) → (comes c).buffer ≡ buffer
     pub list_kept : (c : Asks) → (c ≢ Stock) → (comes c).list ≡ list
+    -- Stock takes its course.
+    pub stock : Fit → 128 ≤ length list → Stocktakes F B t list (comes Stock)
