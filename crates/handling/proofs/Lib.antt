@@ -5,4 +5,3 @@ pub mod Places
 pub mod Keeping
 pub mod Unchecked
 pub mod Lawful
-pub mod Worked

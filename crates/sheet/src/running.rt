@@ -7,7 +7,6 @@ ghost use Rattle.sheet.specs.Sheets.{printed_of, refusal_of};
 ghost use Rattle.sheet.specs.Played.{SheetPlays};
 ghost use Rattle.sheet.specs.Views.{refused_by, refused_in, run_by, RanBy};
 ghost use Rattle.sheet.specs.Worked.{WorkedSheets};
-ghost use Rattle.handling.specs.Worked.{WorkedStocks};
 
 use crate::faults::LineFault;
 use crate::naming::Named;
@@ -80,15 +79,13 @@ fn refuse(mut text: String, fault: SheetFault) -> Result<Ran, AllocError>
 // Runs a sheet: the text that it prints, the line of a refusal included, and why it was refused, if
 // it was. Want of memory is the only error. The text is that of the sheet's calls, put one after
 // another, up to the first refusal, to a loaded tray as the law over every run means it: clause
-// `calls`. Sheets worked out by hand print what was worked out: clause `worked`; stocks worked out by
-// hand answer and list it: clause `stocks`.
-#[tactic(auto, using(crate::proofs::Playing::sheet_plays, crate::proofs::Worked::worked_sheets, handling::proofs::Worked::worked_stocks))]
+// `calls`. Sheets worked out by hand print what was worked out: clause `worked`.
+#[tactic(auto, using(crate::proofs::Playing::sheet_plays, crate::proofs::Worked::worked_sheets))]
 pub fn run_sheet(heap: Global, sheet: &[u8]) -> Result<Ran, AllocError>
     ensures printed { IfOk result (λ ran. string_bytes ran.text ≡ printed_of sheet.now) }
     ensures refused { IfOk result (λ ran. refused_in ran.fault ≡ refusal_of sheet.now) }
     ensures calls { SheetPlays sheet.now }
     ensures worked { WorkedSheets }
-    ensures stocks { WorkedStocks }
 {
     let mut text = String::new(heap);
     match run_whole(heap, sheet, &mut text) {

@@ -47,7 +47,7 @@ module _ {SF HF SB HB : Type 0} (F : Behaviour SF HF) (B : Behaviour SB HB) wher
       answered : (o : Option (List ℕ)) → answering a ≡ o → Slotted
       answered (Some serial) is =
           let halted : SameEnd F B (halting (Some serial) next (loud (sent c))) (after_frame F B frame t) (next (after_slot (Heard serial) c)) (after_frame F B (hltb serial) (after_frame F B frame t)) =
-              record { result = refl; tray = refl } in
+          record { result = refl; tray = refl } in
           record {
             one = Heard serial;
             after = after_frame F B (hltb serial) (after_frame F B frame t);

@@ -1,8 +1,8 @@
 -- What comes of a stock: its course, its frames, its list and its answer.
 use Rattle.std.proofs.Common.{◌≡◌, ℕ, ◌≤◌, true, List, ◌++◌, length, drop, Ok, sym, refl, subst, arith}
 use Rattle.kinds.specs.Kinds.{Behaviour}
-use Rattle.tray_core.specs.Course.{Lists, Stocktakes, all_serials, last_clashes, sent_from}
-use Rattle.tray_core.specs.Scripts.{played, after_play}
+use Rattle.tray_core.specs.Course.{Lists, Stocktakes, all_serials, sent_from}
+use Rattle.tray_core.specs.Scripts.{after_play}
 use Rattle.tray_core.specs.Step.{Stock, Outcome, does, figures}
 use Rattle.tray_core.specs.Stock.{Tally, nothing, stocktaking}
 use Rattle.tray_core.specs.Trays.{Model}
