@@ -2,29 +2,28 @@
 use Rattle.std.proofs.Common.{◌≡◌, ℕ, ◌%◌, Bool, true, false, cond, not, ◌&&◌, eqb, ltb, List, [], ◌∷◌, replicate, Some, None, Option, sym, refl, ap, ◌∙◌, ⊎_elim, arith, lit<}
 use Rattle.std.specs.Str.{bytes_eq}
 use Rattle.std.proofs.Math.Bool.{and-true, and-false}
-use Rattle.std.proofs.lemmas.Bool.{cond-false, cases_Bool, false≢true, eqb-true, ne_eqb, eq-eqb, not-true, and_parts}
+use Rattle.std.proofs.lemmas.Bool.{cases_Bool, false≢true, eqb-true, eq-eqb, not-true, and_parts}
 use Rattle.std.proofs.lemmas.Slice.Eq.{bytes_eq-Decides}
 use Rattle.typeb.specs.declared.frames.Op.{Op}
 use Rattle.typeb.specs.declared.frames.Op.TheVariants.{Read, Write, Lock, CheckPassword, Deselect, Count}
-use Rattle.typeb.specs.declared.frames.Slots.{Slots}
 use Rattle.typeb.specs.CheckBytes.{fold_bit, fold_bits, fold_byte, check_bytes, sound}
 use Rattle.typeb.specs.Hears.{Heard, Request, SlotMarker, Attrib, Halt, Command, heard}
-use Rattle.tags.specs.declared.link.Link.{Link}
 use Rattle.tags.specs.declared.link.State.{State}
 use Rattle.tags.specs.declared.link.State.TheVariants.{Off, Idle, Requested, Declared, Halted, Active}
-use Rattle.tags.specs.Common.{reacts_by, by_link, with_opened}
-use Rattle.tags.specs.Conduct.{Conduct, Power, Writes, Openness, Accepting, PasswordWanted, OtherCards, OtherSerials, LinkStays, Deafness, ReadsBack, PasswordCounts, Conversation, checking_op, is_check, acknowledges, speaks, checks_now, noted, verdicts_of, last_of, passes_by, not_declared}
-use Rattle.tags.specs.Links.{LinkHears, link_hears, listens, hears_marker, is_declared, is_active, is_off, powered, answers_to}
-use Rattle.tags.specs.Links as links
-use Rattle.tags.specs.Pages.{serial_in, unlocked, locked_by, counter_in, counted_by}
+use Rattle.tags.specs.Common.{reacts_by, with_opened}
+use Rattle.tags.specs.Conduct.{Conduct, Writes, Openness, Accepting, PasswordWanted, LinkStays, ReadsBack, PasswordCounts, Conversation, checking_op, is_check, acknowledges, speaks, checks_now, noted, verdicts_of, last_of}
+use Rattle.tags.specs.Links.{is_off, powered, answers_to}
+use Rattle.tags.specs.Pages.{unlocked, locked_by, counter_in, counted_by}
 use Rattle.tags.specs.Pump.{PumpMeaning, pump_acts, pump_obeys, pump_reads, pump_writes, pump_checks, asks, passes, page_of, with_page}
 use Rattle.kinds.specs.Reacts.{Reaction, answered, unmoved, replies, says_at}
 use Rattle.tags.specs.Rules.{reading_of, writing_of, ever_read, read_now, by_write}
-use Rattle.kinds.specs.Says.{Says, Page, Acknowledged, Refused}
-use Rattle.tags.specs.Tables.{StateTable, DrawTable, RefusalTable, MakingTable}
+use Rattle.kinds.specs.Says.{Page, Acknowledged, Refused}
+use Rattle.tags.specs.Tables.{RefusalTable, MakingTable}
 use Rattle.tags.proofs.Asked.{after_read, after_write, after_lock, after_count}
 use Rattle.tags.proofs.Replaced.{replaced_here}
 use Rattle.tags.proofs.Staying.{keeps_power}
+use Rattle.tags.proofs.LinkLawful.{link_laws}
+use Rattle.tags.proofs.GoingBy.{pump_goes_by}
 
 -- openness
 abbrev AsOpen : PumpMeaning → PumpMeaning → Type 0
@@ -123,54 +122,7 @@ step_accepts None m = refl
 accepting : Accepting
 accepting frame m = step_accepts (heard frame) m
 
--- deafness, by the frame and then by the state
-not_listening : (family : ℕ) (wake_up : Bool) (slots : Slots) (s : State) → passes_by (Request family wake_up slots) s ≡ true → listens s wake_up ≡ false
-not_listening family wake_up slots Off h = refl
-not_listening family wake_up slots Idle h = absurd (false≢true h)
-not_listening family wake_up slots (Requested slot) h = absurd (false≢true h)
-not_listening family wake_up slots Declared h = absurd (false≢true h)
-not_listening family true slots Halted h = absurd (false≢true h)
-not_listening family false slots Halted h = refl
-not_listening family wake_up slots Active h = refl
-
-not_waiting : (answer : Says) (slot : ℕ) (link : Link) (s : State) → passes_by (SlotMarker slot) s ≡ true → hears_marker answer slot link s ≡ links.unmoved link
-not_waiting answer slot link Off h = refl
-not_waiting answer slot link Idle h = refl
-not_waiting answer slot link (Requested own) h = cond-false (eqb own slot) _ _ (not-true (eqb own slot) h)
-not_waiting answer slot link Declared h = refl
-not_waiting answer slot link Halted h = refl
-not_waiting answer slot link Active h = refl
-
-not_declared_lem : (s : State) → not_declared s ≡ true → is_declared s ≡ false
-not_declared_lem Off h = refl
-not_declared_lem Idle h = refl
-not_declared_lem (Requested slot) h = refl
-not_declared_lem Declared h = absurd (false≢true h)
-not_declared_lem Halted h = refl
-not_declared_lem Active h = refl
-
-not_active : (op : Op) (cid address : ℕ) (bytes : List ℕ) (s : State) → passes_by (Command op cid address bytes) s ≡ true → is_active s ≡ false
-not_active op cid address bytes Off h = refl
-not_active op cid address bytes Idle h = refl
-not_active op cid address bytes (Requested slot) h = refl
-not_active op cid address bytes Declared h = refl
-not_active op cid address bytes Halted h = refl
-not_active op cid address bytes Active h = absurd (false≢true h)
-
-by_link_lem : (m : PumpMeaning) (r : LinkHears) → r ≡ links.unmoved m.shown.link → by_link r m ≡ unmoved m
-by_link_lem m r same = ap (λ (l : LinkHears). by_link l m) same
-
-deafness : Deafness
-deafness (Request family wake_up slots) m h = by_link_lem m _ (cond-false (listens m.shown.link.state wake_up) _ _ (not_listening family wake_up slots m.shown.link.state h))
-deafness (SlotMarker slot) m h = by_link_lem m _ (not_waiting _ slot m.shown.link m.shown.link.state h)
-deafness (Attrib serial params inf) m h =
-    by_link_lem m _ (cond-false (is_declared m.shown.link.state && bytes_eq serial (serial_in m.shown.pages)) _ _ (ap (λ (b : Bool). b && bytes_eq serial (serial_in m.shown.pages)) (not_declared_lem m.shown.link.state h)))
-deafness (Halt serial) m h =
-    by_link_lem m _ (cond-false (is_declared m.shown.link.state && bytes_eq serial (serial_in m.shown.pages)) _ _ (ap (λ (b : Bool). b && bytes_eq serial (serial_in m.shown.pages)) (not_declared_lem m.shown.link.state h)))
-deafness (Command op cid address bytes) m h =
-    cond-false (answers_to cid m.shown.link) _ _ (ap (λ (b : Bool). b && eqb cid m.shown.link.cid) (not_active op cid address bytes m.shown.link.state h))
-
--- power
+-- a tag that has gained power has it
 pub has_power : (s : State) → is_off (powered s) ≡ false
 has_power Off = refl
 has_power Idle = refl
@@ -178,16 +130,6 @@ has_power (Requested slot) = refl
 has_power Declared = refl
 has_power Halted = refl
 has_power Active = refl
-
-power : (m : PumpMeaning) → Power m
-power m =
-    record {
-      off = refl;
-      on = has_power m.shown.link.state;
-      stays_off = record { pages = refl; hidden = refl; card = refl; draw = refl };
-      stays_on = record { pages = refl; hidden = refl; card = refl; draw = refl };
-      opens_none = refl;
-    }
 
 -- a question whose answer was yes, since the command was acknowledged
 asked_yes : (test : Bool) (code : ℕ) (m : PumpMeaning) (go : Reaction PumpMeaning) → (asks test code m go).says ≡ Some Acknowledged → test ≡ true
@@ -289,27 +231,6 @@ password_wanted bytes m accepted =
           false≢true (sym (not-true (bytes_eq bytes (replicate 8 0xFF)) parts.0) ∙ (bytes_eq-Decides bytes (replicate 8 0xFF)).1 e);
     }
 
-other_cards : OtherCards
-other_cards op cid address bytes m apart =
-    cond-false (answers_to cid m.shown.link) _ _
-    (ap (λ (b : Bool). is_active m.shown.link.state && b) (ne_eqb cid m.shown.link.cid apart) ∙ and-false (is_active m.shown.link.state))
-
--- two lists that differ are not equal byte by byte
-differ : (xs ys : List ℕ) → (xs ≡ ys → ⊥) → bytes_eq xs ys ≡ false
-differ xs ys apart =
-    ⊎_elim
-    (λ (t : bytes_eq xs ys ≡ true). absurd (apart ((bytes_eq-Decides xs ys).0 t)))
-    (λ (t : bytes_eq xs ys ≡ false). t)
-    (cases_Bool (bytes_eq xs ys))
-
-other_serials : OtherSerials
-other_serials named params inf m apart =
-    let own : List ℕ = serial_in m.shown.pages in
-    let state : State = m.shown.link.state in
-    let off : (is_declared state && bytes_eq named own) ≡ false =
-    ap (λ (b : Bool). is_declared state && b) (differ named own apart) ∙ and-false (is_declared state) in
-    (by_link_lem m _ (cond-false (is_declared state && bytes_eq named own) _ _ off), by_link_lem m _ (cond-false (is_declared state && bytes_eq named own) _ _ off))
-
 -- what data commands do to state, card number and draw number
 abbrev SameLink : PumpMeaning → PumpMeaning → Type 0
 SameLink m n = n.shown.link ≡ m.shown.link
@@ -327,12 +248,6 @@ link_stays Deselect page bytes m = refl
 link_stays Count page bytes m = after_count (SameLink m) m refl (λ p b. refl) bytes
 
 -- the worked tables
-states : StateTable
-states = record { off = refl; idle = refl; requested = refl; declared = refl; halted = refl; active = refl; gained = refl; lost = refl }
-
-draws : DrawTable
-draws = record { slots = refl; two = refl; four = refl }
-
 refusals : RefusalTable
 refusals =
     record {
@@ -360,18 +275,14 @@ conduct =
       openness = openness;
       accepting = accepting;
       password_wanted = password_wanted;
-      other_cards = other_cards;
-      other_serials = other_serials;
+      link = link_laws pump_obeys;
+      goes_by = pump_goes_by;
       link_stays = link_stays;
-      deafness = deafness;
-      power = power;
       frames = keeps_power;
       writes = writes;
       reads_back = reads_back;
       password_counts = password_counts;
       conversation = conversation;
-      states = states;
-      draws = draws;
       refusals = refusals;
       making = making;
     }

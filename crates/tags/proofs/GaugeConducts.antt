@@ -7,6 +7,8 @@ use Rattle.typeb.specs.Hears.{Heard, Request, SlotMarker, Attrib, Halt, Command,
 use Rattle.tags.specs.Common.{reacts_by}
 use Rattle.tags.specs.Conduct.{answers_all, LinkStays}
 use Rattle.tags.specs.Gauge.{GaugeMeaning, gauge_acts, gauge_obeys}
+use Rattle.tags.proofs.LinkLawful.{link_laws}
+use Rattle.tags.proofs.GoingBy.{gauge_goes_by}
 use Rattle.tags.specs.GaugeConduct.{GaugeConduct, GaugeKeeps, GaugesMade, gauge_new, told_gauge, gauge_replies}
 use Rattle.tags.specs.Links.{answers_to}
 use Rattle.tags.specs.Pages.{page_at}
@@ -63,4 +65,4 @@ unfolding fold_bit fold_bits fold_byte check_bytes sound heard
 conversation = refl
 
 pub conduct : GaugeConduct
-conduct = record { made = made; keeps = keeps; link_stays = link_stays; conversation = conversation }
+conduct = record { made = made; keeps = keeps; link = link_laws gauge_obeys; goes_by = gauge_goes_by; link_stays = link_stays; conversation = conversation }

@@ -7,5 +7,8 @@ pub mod Locks
 pub mod Moves
 pub mod Asked
 pub mod Staying
+pub mod LinkStates
+pub mod LinkLawful
+pub mod GoingBy
 pub mod Conducts
 pub mod GaugeConducts

@@ -1,20 +1,22 @@
 -- How a pump tag conducts itself, in the subject's words: laws above the definitions, which a wrong definition would break.
-use Rattle.std.specs.Prelude.{◌≡◌, ℕ, ◌<◌, Bool, true, false, not, ◌&&◌, List, [], ◌∷◌, length, replicate, Some, None, Option, ◌==◌, ◌≢◌}
+use Rattle.std.specs.Prelude.{◌≡◌, ℕ, ◌<◌, Bool, true, false, not, ◌&&◌, List, [], ◌∷◌, length, replicate, Some, None, Option, ◌≢◌}
 use Rattle.std.specs.Str.{bytes_eq}
 use Rattle.typeb.specs.declared.frames.Op.{Op}
 use Rattle.typeb.specs.declared.frames.Op.TheVariants.{Read, Write, Lock, CheckPassword, Deselect, Count}
 use Rattle.typeb.specs.CheckBytes.{sealed}
 use Rattle.typeb.specs.Hears.{Heard, Request, SlotMarker, Attrib, Halt, Command, heard}
 use Rattle.tags.specs.declared.link.State.{State}
-use Rattle.tags.specs.declared.link.State.TheVariants.{Off, Idle, Requested, Declared, Halted, Active}
+use Rattle.tags.specs.declared.link.State.TheVariants.{Off, Halted}
 use Rattle.tags.specs.Common.{Shown, is_off_tag, reacts_by}
 use Rattle.tags.specs.Edges.{tag_in}
 use Rattle.kinds.specs.Kinds.{Meaning, Behaviour}
-use Rattle.tags.specs.Pages.{lock_bit, serial_in}
+use Rattle.tags.specs.Pages.{lock_bit}
 use Rattle.tags.specs.Pump.{PumpMeaning, PumpSized, page_of, pump_acts, pump_obeys, pump_reads, pump_writes, pump_checks}
-use Rattle.kinds.specs.Reacts.{Reaction, unmoved, says_to}
+use Rattle.kinds.specs.Reacts.{Reaction, says_to}
 use Rattle.kinds.specs.Says.{Says, Answer, Card, Page, Acknowledged, Refused}
-use Rattle.tags.specs.Tables.{StateTable, DrawTable, RefusalTable, MakingTable}
+use Rattle.tags.specs.Tables.{RefusalTable, MakingTable}
+use Rattle.tags.specs.LinkLaws.{LinkLaws}
+use Rattle.tags.specs.GoesBy.{GoesBy}
 
 -- A tag that hears frames one after another: what it is then, and all that it answered.
 abbrev pub after_all : PumpMeaning → List (List ℕ) → PumpMeaning
@@ -85,18 +87,6 @@ pub record PasswordGiven (bytes : List ℕ) (m : PumpMeaning) : Type 0 where
 abbrev pub PasswordWanted : Type 0
 PasswordWanted = (bytes : List ℕ) (m : PumpMeaning) → (pump_checks bytes m).accepted ≡ true → PasswordGiven bytes m
 
--- A data command for another card number meets silence and changes nothing.
-abbrev pub OtherCards : Type 0
-OtherCards =
-    (op : Op) (cid address : ℕ) (bytes : List ℕ) (m : PumpMeaning) → (cid ≢ m.shown.link.cid)
-    → reacts_by pump_obeys (Command op cid address bytes) m ≡ unmoved m
-
--- So do ATTRIB and HLTB for another serial number.
-abbrev pub OtherSerials : Type 0
-OtherSerials =
-    (named params inf : List ℕ) (m : PumpMeaning) → (named ≢ serial_in m.shown.pages)
-    → (reacts_by pump_obeys (Attrib named params inf) m ≡ unmoved m) × (reacts_by pump_obeys (Halt named) m ≡ unmoved m)
-
 -- DESELECT halts; no other data command changes the state, and none the card number or the draw number.
 abbrev pub halting : Op → State → State
 halting Read state = state
@@ -110,56 +100,6 @@ abbrev pub LinkStays : {H : Type 0} → (Op → ℕ → List ℕ → Meaning Sho
 LinkStays {H} obeys =
     (op : Op) (page : ℕ) (bytes : List ℕ) (m : Meaning Shown H)
     → (obeys op page bytes m).after.shown.link ≡ record { state = halting op m.shown.link.state; cid = m.shown.link.cid; draw = m.shown.link.draw }
-
--- The frames that pass a tag by, in each state: requests pass by off and active tags, and REQB halted ones; a marker concerns
--- only a tag that waits for its slot, ATTRIB and HLTB only a declared one, data commands only an active one.
-abbrev pub not_declared : State → Bool
-not_declared Off = true
-not_declared Idle = true
-not_declared (Requested slot) = true
-not_declared Declared = false
-not_declared Halted = true
-not_declared Active = true
-
-abbrev pub passes_by : Heard → State → Bool
-passes_by (Request family wake_up slots) Off = true
-passes_by (Request family wake_up slots) Idle = false
-passes_by (Request family wake_up slots) (Requested slot) = false
-passes_by (Request family wake_up slots) Declared = false
-passes_by (Request family wake_up slots) Halted = not wake_up
-passes_by (Request family wake_up slots) Active = true
-passes_by (SlotMarker slot) Off = true
-passes_by (SlotMarker slot) Idle = true
-passes_by (SlotMarker slot) (Requested own) = not (own == slot)
-passes_by (SlotMarker slot) Declared = true
-passes_by (SlotMarker slot) Halted = true
-passes_by (SlotMarker slot) Active = true
-passes_by (Attrib serial params inf) state = not_declared state
-passes_by (Halt serial) state = not_declared state
-passes_by (Command op cid address bytes) Off = true
-passes_by (Command op cid address bytes) Idle = true
-passes_by (Command op cid address bytes) (Requested slot) = true
-passes_by (Command op cid address bytes) Declared = true
-passes_by (Command op cid address bytes) Halted = true
-passes_by (Command op cid address bytes) Active = false
-
--- A frame that passes a tag by meets silence and changes nothing.
-abbrev pub Deafness : Type 0
-Deafness = (frame : Heard) (m : PumpMeaning) → passes_by frame m.shown.link.state ≡ true → reacts_by pump_obeys frame m ≡ unmoved m
-
--- Power: a tag that has lost it is off, one that has gained it is not; its pages, card number and draw number stay.
-pub record Stays (m n : PumpMeaning) : Type 0 where
-  pub pages : n.shown.pages ≡ m.shown.pages
-  pub hidden : n.hidden ≡ m.hidden
-  pub card : n.shown.link.cid ≡ m.shown.link.cid
-  pub draw : n.shown.link.draw ≡ m.shown.link.draw
-
-pub record Power (m : PumpMeaning) : Type 0 where
-  pub off : is_off_tag (pump_acts.loses m).shown ≡ true
-  pub on : is_off_tag (pump_acts.gains m).shown ≡ false
-  pub stays_off : Stays m (pump_acts.loses m)
-  pub stays_on : Stays m (pump_acts.gains m)
-  pub opens_none : (pump_acts.gains m).opened ≡ m.opened
 
 -- No frame turns a tag on or off.
 abbrev pub FramesKeepPower : Type 0
@@ -237,17 +177,13 @@ pub record Conduct : Type 0 where
   pub openness : Openness
   pub accepting : Accepting
   pub password_wanted : PasswordWanted
-  pub other_cards : OtherCards
-  pub other_serials : OtherSerials
+  pub link : LinkLaws pump_obeys
+  pub goes_by : GoesBy pump_obeys
   pub link_stays : LinkStays pump_obeys
-  pub deafness : Deafness
-  pub power : (m : PumpMeaning) → Power m
   pub frames : FramesKeepPower
   pub writes : Writes
   pub reads_back : ReadsBack
   pub password_counts : PasswordCounts
   pub conversation : Conversation
-  pub states : StateTable
-  pub draws : DrawTable
   pub refusals : RefusalTable
   pub making : MakingTable

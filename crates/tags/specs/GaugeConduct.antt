@@ -5,6 +5,8 @@ use Rattle.tags.specs.declared.link.State.TheVariants.{Off}
 use Rattle.tags.specs.Conduct.{answers_all, LinkStays}
 use Rattle.tags.specs.Gauge.{GaugeMeaning, gauge_acts, gauge_obeys}
 use Rattle.tags.specs.Making.{gauge_made}
+use Rattle.tags.specs.LinkLaws.{LinkLaws}
+use Rattle.tags.specs.GoesBy.{GoesBy}
 
 -- A gauge just made, of serial number 11223344, draw number 0xE123 and these bytes on its page 1.
 abbrev pub gauge_image : List ℕ
@@ -77,5 +79,7 @@ gauge_replies =
 pub record GaugeConduct : Type 0 where
   pub made : GaugesMade
   pub keeps : (frame : List ℕ) (m : GaugeMeaning) → GaugeKeeps frame m
+  pub link : LinkLaws gauge_obeys
+  pub goes_by : GoesBy gauge_obeys
   pub link_stays : LinkStays gauge_obeys
   pub conversation : answers_all gauge_acts (gauge_acts.gains gauge_new) told_gauge ≡ gauge_replies

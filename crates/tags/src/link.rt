@@ -2,6 +2,7 @@
 ghost use Rattle.std.specs.Prelude.{◌≡◌, None};
 ghost use Rattle.typeb.specs.Hears.{frame_of, slot_count};
 ghost use Rattle.tags.specs.Links.{new_link, gains_link, loses_link, drawn, link_hears, requested, deselected, obeyed};
+ghost use Rattle.tags.specs.LinkLaws.{Draws};
 ghost use Rattle.tags.specs.Orders.{said_next, order_next};
 ghost use Rattle.kinds.specs.Says.{says_of, saying_of};
 
@@ -43,8 +44,10 @@ pub enum Next<'a> {
 }
 
 // A slot of those announced, and the next draw number, from a draw number.
+#[tactic(auto, using(crate::proofs::LinkLawful::draws_of))]
 pub fn draw_slot(draw: u16, slots: Slots) -> (u8, u16)
-    ensures { result ≡ drawn draw (slot_count slots) }
+    ensures result { result ≡ drawn draw (slot_count slots) }
+    ensures draws { Draws (slot_count slots) draw result.0 result.1 }
 {
     let wide = u32::from(draw);
     let slot = 1 + wide / 4096 % u32::from(slots.count());
