@@ -13,7 +13,7 @@ use Rattle.tags.specs.declared.link.Link.{Link}
 use Rattle.tags.specs.declared.link.State.{State}
 use Rattle.tags.specs.declared.link.State.TheVariants.{Off, Idle, Requested, Declared, Halted, Active}
 use Rattle.tags.specs.Common.{reacts_by, by_link, with_opened}
-use Rattle.tags.specs.Conduct.{Conduct, Power, Writes, Openness, Accepting, PasswordWanted, OtherCards, OtherSerials, LinkStays, Deafness, ReadsBack, PasswordCounts, Conversation, checking_op, is_check, acknowledges, speaks, checks_now, noted, verdicts_of, last_of, passes_by, not_declared}
+use Rattle.tags.specs.Conduct.{Conduct, Power, Openness, Accepting, OtherCards, OtherSerials, LinkStays, Deafness, ReadsBack, PasswordCounts, Conversation, checking_op, is_check, acknowledges, speaks, checks_now, noted, verdicts_of, last_of, passes_by, not_declared}
 use Rattle.tags.specs.Links.{LinkHears, link_hears, listens, hears_marker, is_declared, is_active, is_off, powered, answers_to}
 use Rattle.tags.specs.Links as links
 use Rattle.tags.specs.Pages.{serial_in, unlocked, locked_by, counter_in, counted_by}
@@ -21,8 +21,11 @@ use Rattle.tags.specs.Pump.{PumpMeaning, pump_acts, pump_obeys, pump_reads, pump
 use Rattle.kinds.specs.Reacts.{Reaction, answered, unmoved, replies, says_at}
 use Rattle.tags.specs.Rules.{reading_of, writing_of, ever_read, read_now, by_write}
 use Rattle.kinds.specs.Says.{Says, Page, Acknowledged, Refused}
-use Rattle.tags.specs.Tables.{StateTable, DrawTable, RefusalTable, MakingTable}
-use Rattle.tags.proofs.Asked.{after_read, after_write, after_lock, after_count}
+use Rattle.tags.specs.Tables.{StateTable, DrawTable}
+use Rattle.tags.proofs.Asked.{asked_yes, asked_on, after_read, after_write, after_lock, after_count}
+use Rattle.tags.proofs.Commands.{data_obeyed}
+use Rattle.tags.proofs.Addressed.{obeyed_by}
+use Rattle.tags.proofs.Makings.{pump_making}
 use Rattle.tags.proofs.Replaced.{replaced_here}
 use Rattle.tags.proofs.Staying.{keeps_power}
 
@@ -189,35 +192,6 @@ power m =
       opens_none = refl;
     }
 
--- a question whose answer was yes, since the command was acknowledged
-asked_yes : (test : Bool) (code : ℕ) (m : PumpMeaning) (go : Reaction PumpMeaning) → (asks test code m go).says ≡ Some Acknowledged → test ≡ true
-asked_yes true code m go said = refl
-asked_yes false code m go said = let z : ◌≡◌ {A = ℕ} 0 1 = cc in absurd (omega arith)
-
-asked_on : (test : Bool) (code : ℕ) (m : PumpMeaning) (go : Reaction PumpMeaning) → test ≡ true → asks test code m go ≡ go
-asked_on test code m go is = ap (λ (b : Bool). asks b code m go) is
-
--- every page but 0 and 2 can be written
-writable_page : (page : ℕ) → (page ≡ 0 → ⊥) → (page ≡ 2 → ⊥) → by_write (writing_of page) ≡ true
-writable_page page not-0 not-2 =
-    ⊎_elim
-    (λ (e : eqb page 0 ≡ true). absurd (not-0 (eqb-true page 0 e)))
-    (λ (e : eqb page 0 ≡ false).
-    ⊎_elim
-    (λ (f : eqb page 2 ≡ true). absurd (not-2 (eqb-true page 2 f)))
-    (λ (f : eqb page 2 ≡ false). simp (e, f) refl)
-    (cases_Bool (eqb page 2)))
-    (cases_Bool (eqb page 0))
-
-writes : Writes
-writes page bytes m not-0 not-2 now clear =
-    let last : Reaction PumpMeaning = replies (with_page page bytes m) Acknowledged in
-    let inner : Reaction PumpMeaning = asks (unlocked page (page_of 0 m)) 0x11 m last in
-    ap (λ (r : Reaction PumpMeaning). r.says)
-    (asked_on m.opened 0x41 m (asks (by_write (writing_of page)) 0x21 m inner) now
-    ∙ asked_on (by_write (writing_of page)) 0x21 m inner (writable_page page not-0 not-2)
-    ∙ asked_on (unlocked page (page_of 0 m)) 0x11 m last (eq-eqb _ _ clear))
-
 -- an acknowledged WRITE has replaced its page, in an open tag
 module _ (page : ℕ) (bytes : List ℕ) (m : PumpMeaning) (said : (pump_writes page bytes m).says ≡ Some Acknowledged) where
   abbrev third : Reaction PumpMeaning
@@ -279,16 +253,6 @@ password_counts bytes m sized eight said =
     ∙ ap (λ (b : Bool). not (bytes_eq bytes (replicate 8 0xFF)) && b) (ap (bytes_eq bytes) (replaced_here m sized 3 (lit< tt) bytes eight) ∙ (bytes_eq-Decides bytes bytes).1 refl)
     ∙ and-true (not (bytes_eq bytes (replicate 8 0xFF)))
 
--- only the password on page 3 is accepted, and not all ones
-password_wanted : PasswordWanted
-password_wanted bytes m accepted =
-    let parts = and_parts (not (bytes_eq bytes (replicate 8 0xFF))) (bytes_eq bytes (page_of 3 m)) (sym (accepted_by (passes bytes m) m) ∙ accepted) in
-    record {
-      is = (bytes_eq-Decides bytes (page_of 3 m)).0 parts.1;
-      not_ones = λ (e : bytes ≡ replicate 8 0xFF).
-          false≢true (sym (not-true (bytes_eq bytes (replicate 8 0xFF)) parts.0) ∙ (bytes_eq-Decides bytes (replicate 8 0xFF)).1 e);
-    }
-
 other_cards : OtherCards
 other_cards op cid address bytes m apart =
     cond-false (answers_to cid m.shown.link) _ _
@@ -333,23 +297,6 @@ states = record { off = refl; idle = refl; requested = refl; declared = refl; ha
 draws : DrawTable
 draws = record { slots = refl; two = refl; four = refl }
 
-refusals : RefusalTable
-refusals =
-    record {
-      read_closed = refl;
-      read_open = refl;
-      written_closed = refl;
-      written_open = refl;
-      locked_closed = refl;
-      locked_open = refl;
-      counted_closed = refl;
-      counted_locked = refl;
-      counted_out = refl;
-    }
-
-making : MakingTable
-making = record { pump = refl }
-
 conversation : Conversation
 unfolding fold_bit fold_bits fold_byte check_bytes sound heard
 conversation = refl
@@ -359,19 +306,18 @@ conduct =
     record {
       openness = openness;
       accepting = accepting;
-      password_wanted = password_wanted;
       other_cards = other_cards;
       other_serials = other_serials;
       link_stays = link_stays;
       deafness = deafness;
       power = power;
       frames = keeps_power;
-      writes = writes;
+      data_obeyed = data_obeyed;
+      obeys = obeyed_by pump_obeys;
       reads_back = reads_back;
       password_counts = password_counts;
       conversation = conversation;
       states = states;
       draws = draws;
-      refusals = refusals;
-      making = making;
+      making = pump_making;
     }

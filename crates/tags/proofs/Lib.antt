@@ -7,5 +7,10 @@ pub mod Locks
 pub mod Moves
 pub mod Asked
 pub mod Staying
+pub mod Bytes
+pub mod LockBits
+pub mod Commands
+pub mod Addressed
+pub mod Makings
 pub mod Conducts
 pub mod GaugeConducts

@@ -9,6 +9,8 @@ pub mod Gauge
 pub mod Making
 pub mod Edges
 pub mod Tables
+pub mod DataLaws
+pub mod MakingLaws
 pub mod Conduct
 pub mod GaugeConduct
 pub mod Judging
