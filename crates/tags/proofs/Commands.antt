@@ -1,5 +1,5 @@
 -- What the data commands do to the 256 bytes of a pump tag.
-use Rattle.std.proofs.Common.{◌≡◌, ℕ, zero, suc, ◌+◌, ◌-◌, ◌*◌, ◌/◌, ◌%◌, ◌<◌, ◌≤◌, Bool, true, false, cond, not, ◌&&◌, ◌||◌, eqb, ltb, List, [], ◌∷◌, ◌++◌, length, get_or, take, replicate, Some, sym, refl, ap, ◌∙◌, subst, inr, ⊎_elim, arith, lit<}
+use Rattle.std.proofs.Common.{◌≡◌, ℕ, zero, suc, ◌+◌, ◌-◌, ◌*◌, ◌/◌, ◌%◌, ◌<◌, ◌≤◌, Bool, true, false, cond, not, ◌&&◌, ◌||◌, eqb, ltb, List, [], ◌∷◌, length, get_or, take, replicate, Some, sym, refl, ap, ◌∙◌, subst, inr, ⊎_elim, arith, lit<}
 use Rattle.std.specs.Int.{bit_at}
 use Rattle.std.specs.Str.{bytes_eq}
 use Rattle.std.proofs.lemmas.Bool.{cases_lt, ne_eqb, lt-ltb, le-ltb, cond-true, cond-false, cond_both, and_left, and_right, and_from, false_from_ne_true, not_from_true, not_from_false}
@@ -7,13 +7,12 @@ use Rattle.std.proofs.lemmas.List.{length-take, get_or-take, get_or_append_left,
 use Rattle.std.proofs.lemmas.Slice.Eq.{bytes_eq-Decides}
 use Rattle.kinds.specs.Reacts.{Reaction, replies}
 use Rattle.kinds.specs.Says.{Page, Acknowledged, Refused}
-use Rattle.typeb.specs.declared.frames.Op.TheVariants.{Read, Write, Lock, CheckPassword, Deselect, Count}
 use Rattle.tags.specs.declared.rights.Reading.{Reading}
 use Rattle.tags.specs.declared.rights.Reading.TheVariants.{Always, WhenOpen, Never}
 use Rattle.tags.specs.Common.{with_opened}
 use Rattle.tags.specs.DataLaws.{memory_of, eight_from, IsBytes, IsWhole, IsPage, ChangesOnly, locks_in, locks_page, counter_of, IsRefused, Reads, Writes, Locks, Counts, Checks, DataObeyed}
 use Rattle.tags.specs.Pages.{unlocked, locked_by, counter_in, counted_by}
-use Rattle.tags.specs.Pump.{PumpMeaning, asks, page_of, with_page, passes, pump_obeys, pump_reads, pump_writes, pump_locks, pump_checks, pump_counts}
+use Rattle.tags.specs.Pump.{PumpMeaning, asks, page_of, with_page, passes, pump_reads, pump_writes, pump_locks, pump_checks, pump_counts}
 use Rattle.tags.specs.Rules.{reading_of, writing_of, ever_read, read_now, by_write}
 use Rattle.tags.proofs.Asked.{asked_on, asked_off}
 use Rattle.tags.proofs.Bytes.{eight_whole, byte_whole, page_bytes, byte_put, after_whole, changes_only, locks_whole, counter_whole}

@@ -1,5 +1,5 @@
 -- How a gauge tag conducts itself.
-use Rattle.std.proofs.Common.{◌≡◌, ℕ, ◌%◌, true, false, Bool, List, Some, None, Option, cond, ltb, length, refl, ap, ◌∙◌, arith}
+use Rattle.std.proofs.Common.{◌≡◌, ℕ, ◌%◌, true, false, Bool, List, Some, None, Option, cond, ltb, refl, ap, ◌∙◌, arith}
 use Rattle.std.proofs.lemmas.Bool.{lt-ltb, le-ltb, cond-true, cond-false}
 use Rattle.std.proofs.lemmas.List.{length-take, length-drop}
 use Rattle.typeb.specs.declared.frames.Op.{Op}
@@ -8,7 +8,7 @@ use Rattle.typeb.specs.CheckBytes.{fold_bit, fold_bits, fold_byte, check_bytes, 
 use Rattle.typeb.specs.Hears.{Heard, Request, SlotMarker, Attrib, Halt, Command, heard}
 use Rattle.tags.specs.Common.{reacts_by}
 use Rattle.tags.specs.Conduct.{answers_all, LinkStays}
-use Rattle.tags.specs.Gauge.{GaugeMeaning, GaugeSized, gauge_acts, gauge_obeys}
+use Rattle.tags.specs.Gauge.{GaugeMeaning, gauge_acts, gauge_obeys}
 use Rattle.tags.specs.GaugeConduct.{GaugeConduct, GaugeKeeps, GaugeObeyed, gauge_new, told_gauge, gauge_replies}
 use Rattle.tags.specs.Links.{answers_to}
 use Rattle.tags.specs.Pages.{page_at}

@@ -10,8 +10,8 @@ use Rattle.tags.specs.declared.link.State.TheVariants.{Off, Idle, Requested, Dec
 use Rattle.tags.specs.Common.{Shown, is_off_tag, reacts_by}
 use Rattle.tags.specs.Edges.{tag_in}
 use Rattle.kinds.specs.Kinds.{Meaning, Behaviour}
-use Rattle.tags.specs.Pages.{lock_bit, serial_in}
-use Rattle.tags.specs.Pump.{PumpMeaning, PumpSized, page_of, pump_acts, pump_obeys, pump_reads, pump_writes, pump_checks}
+use Rattle.tags.specs.Pages.{serial_in}
+use Rattle.tags.specs.Pump.{PumpMeaning, PumpSized, pump_acts, pump_obeys, pump_reads, pump_writes, pump_checks}
 use Rattle.kinds.specs.Reacts.{Reaction, unmoved, says_to}
 use Rattle.kinds.specs.Says.{Says, Answer, Card, Page, Acknowledged, Refused}
 use Rattle.tags.specs.DataLaws.{DataObeyed, Obeys}

@@ -1,5 +1,5 @@
 -- What is made of an image, over all images: by the bytes that the questions ask for.
-use Rattle.std.specs.Prelude.{◌≡◌, ◌≢◌, ℕ, ◌+◌, ◌*◌, ◌%◌, ◌<◌, ◌≤◌, false, List, length, Ok, Err, IsOkAnd, slice_index}
+use Rattle.std.specs.Prelude.{◌≡◌, ◌≢◌, ℕ, ◌+◌, ◌*◌, ◌%◌, ◌<◌, ◌≤◌, false, List, length, Err, IsOkAnd, slice_index}
 use Rattle.kinds.specs.Kinds.{Meaning}
 use Rattle.tags.specs.declared.link.State.TheVariants.{Off}
 use Rattle.tags.specs.Common.{Shown}

@@ -1,16 +1,12 @@
 -- Worked tables, from the data sheet and the standard: what each frame does in each state, and slots drawn.
-use Rattle.std.specs.Prelude.{◌≡◌, ℕ, Bool, true, false, List, [], ◌∷◌, ◌++◌, map, replicate, Some, None, Ok, Err, Option}
-use Rattle.std.specs.List.{range_with_len}
+use Rattle.std.specs.Prelude.{◌≡◌, ℕ, true, false, List, [], ◌∷◌, map, replicate, Some, None, Option}
 use Rattle.typeb.specs.declared.frames.Slots.TheVariants.{One, Two, Four}
 use Rattle.typeb.specs.Hears.{Heard, Request, SlotMarker, Attrib, Halt}
 use Rattle.tags.specs.declared.link.Link.{Link}
 use Rattle.tags.specs.declared.link.State.{State}
 use Rattle.tags.specs.declared.link.State.TheVariants.{Off, Idle, Requested, Declared, Halted, Active}
-use Rattle.tags.specs.Edges.{tag_in}
 use Rattle.tags.specs.Links.{LinkHears, gains_link, loses_link, link_hears, drawn}
-use Rattle.tags.specs.Making.{pump_made}
-use Rattle.tags.specs.Pump.{PumpMeaning, pump_reads, pump_writes, pump_locks, pump_counts}
-use Rattle.kinds.specs.Says.{Says, Answer, Card, Page, Acknowledged, Refused}
+use Rattle.kinds.specs.Says.{Says, Answer, Card, Acknowledged}
 
 -- A tag of serial number 11223344, with card number 7, and a draw number that begins with E.
 abbrev pub link_in : State → Link
