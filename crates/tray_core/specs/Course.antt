@@ -1,4 +1,5 @@
--- What a stock is: the course that it takes, slot by slot, and what comes of it, for every tray of any kinds.
+-- What a stock is: the course that it takes, slot by slot, and what comes of it, for every tray of
+-- any kinds.
 use Rattle.std.specs.Prelude.{◌≡◌, ℕ, suc, ◌+◌, ◌≤◌, ◌⊎◌, Bool, true, false, if◌then◌else◌, List, [], ◌∷◌, ◌++◌, All, map, length, drop, Ok}
 use Rattle.typeb.specs.CheckBytes.{sealed}
 use Rattle.kinds.specs.Kinds.{Behaviour}
@@ -24,8 +25,8 @@ pub record SoundAnswer (bytes serial : List ℕ) : Type 0 where
   pub is : bytes ≡ sealed (0x50 ∷ serial ++ application ++ protocol)
   pub long : (length serial ≡ 4) × (length application ≡ 4) × (length protocol ≡ 3)
 
--- The frames of a round, one for each slot: the request for family 0x00 and sixteen slots, WUPB where
--- it wakes and REQB else; then the markers of slots 2 to 16.
+-- The frames of a round, one for each slot: the request for family 0x00 and sixteen slots, WUPB
+-- where it wakes and REQB else; then the markers of slots 2 to 16.
 abbrev pub slot_frames : Bool → List (List ℕ)
 slot_frames wakes =
     map sealed
@@ -42,8 +43,8 @@ abbrev pub AllSilent : List Slot → Type 0
 AllSilent round = All (λ slot. slot ≡ Silent) round
 
 module _ {SF HF SB HB : Type 0} (F : Behaviour SF HF) (B : Behaviour SB HB) where
-  -- A slot before a tray: its frame is sent; where one reply is heard and it is a sound answer, HLTB
-  -- follows for the serial number in it.
+  -- A slot before a tray: its frame is sent; where one reply is heard and it is a sound answer,
+  -- HLTB follows for the serial number in it.
   pub data TakesSlot (frame : List ℕ) (t : Model SF HF SB HB) : Slot → Model SF HF SB HB → Type 0 where
     silent : replies F B t frame ≡ [] → TakesSlot frame t Silent (after_frame F B frame t)
     clashed : {a b : List ℕ} {more : List (List ℕ)} → replies F B t frame ≡ a ∷ (b ∷ more)
@@ -62,8 +63,8 @@ module _ {SF HF SB HB : Type 0} (F : Behaviour SF HF) (B : Behaviour SB HB) wher
         → TakesSlot frame t one u → TakesSlots frames u others v
         → TakesSlots (frame ∷ frames) t (one ∷ others) v
 
-  -- At most so many rounds, of which the first wakes or does not, and no later one does: a round whose
-  -- slots are all silent is the last, and so is one after which none is left.
+  -- At most so many rounds, of which the first wakes or does not, and no later one does: a round
+  -- whose slots are all silent is the last, and so is one after which none is left.
   pub data TakesRounds : Bool → ℕ → Model SF HF SB HB → List (List Slot) → Model SF HF SB HB → Type 0 where
     quiet_round : {wakes : Bool} {left : ℕ} {t u : Model SF HF SB HB} {round : List Slot}
         → TakesSlots (slot_frames wakes) t round u → AllSilent round
@@ -124,8 +125,8 @@ abbrev pub Among : List ℕ → List (List ℕ) → Type 0
 Among x [] = ⊥
 Among x (y ∷ ys) = (x ≡ y) ⊎ Among x ys
 
--- What is listed of the serial numbers heard: each that was heard and no other, once, in the order of
--- first hearing, that is, behind exactly those that were heard before it was first heard.
+-- What is listed of the serial numbers heard: each that was heard and no other, once, in the order
+-- of first hearing, that is, behind exactly those that were heard before it was first heard.
 pub record Lists (heard entries : List (List ℕ)) : Type 0 where
   pub all : (x : List ℕ) → Among x heard → Among x entries
   pub only : (x : List ℕ) → Among x entries → Among x heard
@@ -143,11 +144,12 @@ module _ {SF HF SB HB : Type 0} (F : Behaviour SF HF) (B : Behaviour SB HB) wher
     pub takes : TakesStock F B t rounds o.tray
     pub determined : (others : List (List Slot)) (u : Model SF HF SB HB)
         → TakesStock F B t others u → (others ≡ rounds) × (u ≡ o.tray)
-    -- The tray after it is the tray after the frames that were sent, put on the air one after another
-    -- as calls of Frame.
+    -- The tray after it is the tray after the frames that were sent, put on the air one after
+    -- another as calls of Frame.
     pub as_frames : (buffer : List ℕ) (spare : List (List ℕ)) → 16 ≤ length buffer
         → run F B t
-        (map (λ frame. record { call = Frame frame; buffer = buffer; list = spare }) (sent_from true rounds))
+        (map (λ frame. record { call = Frame frame; buffer = buffer; list = spare })
+        (sent_from true rounds))
         ≡ o.tray
     -- The field is as it was, and so is what is on the tray.
     pub field : o.tray.field ≡ t.field
@@ -160,4 +162,5 @@ module _ {SF HF SB HB : Type 0} (F : Behaviour SF HF) (B : Behaviour SB HB) wher
     -- The answer: frames sent, rounds, clashed slots of the last round, places filled.
     pub answers : o.answer
         ≡ Ok
-        (answer.Stock (length (sent_from true rounds)) (length rounds) (last_clashes rounds) (length entries))
+        (answer.Stock (length (sent_from true rounds)) (length rounds) (last_clashes rounds)
+        (length entries))
