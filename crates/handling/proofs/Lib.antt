@@ -6,3 +6,4 @@ pub mod Keeping
 pub mod Unchecked
 pub mod Lawful
 pub mod Worked
+pub mod Own
