@@ -1,6 +1,7 @@
 // What a line says, and how it is read.
 ghost use Rattle.std.specs.Prelude.{◌≡◌, ◌≤◌, length};
 ghost use Rattle.parts.specs.Parts.{given};
+ghost use Rattle.sheet.specs.CallWords.{CallWords};
 ghost use Rattle.sheet.specs.Lines.{line_says, said_in, word_says};
 ghost use Rattle.sheet.specs.Worked.{LinesWorked};
 ghost use Rattle.typeb.specs.CheckBytes.{sealed};
@@ -68,10 +69,12 @@ fn read_fields(word: Word, fields: [Option<&[u8]>; 4]) -> Result<Line, LineFault
 }
 
 // What a line says: a known word, as many fields as it has, and each field in its form.
+// Which text is which call, tag or page, and which word is none: clause `words`.
 // A table of lines, worked out by hand, agrees: clause `worked`.
-#[tactic(auto, using(crate::proofs::Worked::lines_worked))]
+#[tactic(auto, using(crate::proofs::CallWords::call_words, crate::proofs::Worked::lines_worked))]
 pub fn read_line(line: &[u8]) -> Result<Line, LineFault>
     ensures result { said_in result ≡ line_says line.now }
+    ensures words { CallWords line.now result }
     ensures worked { LinesWorked }
 {
     let (first, behind) = split_fields(line);
