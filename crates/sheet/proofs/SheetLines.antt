@@ -27,6 +27,7 @@ goes : (number : ℕ) (stage : Stage) (lines : List (List ℕ)) (rest text : Lis
     → lines_run number stage (parted 10 (lined lines ++ rest)) ≡ before text (lines_run (length lines + number) last (parted 10 rest))
 goes number stage [] rest text last short done =
     ap (λ (s : Stage). lines_run number s (parted 10 rest)) done.1 ∙ ap (λ (t : List ℕ). before t (lines_run number last (parted 10 rest))) (sym done.0)
+    ∙ ap (λ (k : ℕ). before text (lines_run k last (parted 10 rest))) (omega arith)
 goes number stage (line ∷ lines) rest text last short done =
     let printed : List ℕ = done.0 in
     let behind : List ℕ = done.1.0 in

@@ -116,8 +116,8 @@ pump_sized image draw tag e = eqb-true _ _ (asked_first _ _ _ tag e)
 gauge_sized : (image : List ℕ) (draw : ℕ) (tag : GaugeMeaning) → gauge_made image draw ≡ Ok tag → length image ≡ 16
 gauge_sized image draw tag e = eqb-true _ _ (asked_first _ _ _ tag e)
 
-zeros : (n : ℕ) → All (λ byte. byte ≡ 0) (replicate n 0)
-zeros n = All-replicate (λ byte. byte ≡ 0) n 0 refl
+zeros : (n : ℕ) → All (λ (byte : ℕ). byte ≡ 0) (replicate n 0)
+zeros n = All-replicate (λ (byte : ℕ). byte ≡ 0) n 0 refl
 
 behind_from_32 : (n page : ℕ) (bytes : List ℕ) (front : List (Draft PumpMeaning)) (back : List (Draft GaugeMeaning)) → paged (32 + n) page bytes (Naming front back) ≡ with_back front (back_paged n page bytes back)
 behind_from_32 n page bytes front back =
