@@ -1,5 +1,5 @@
 -- Texts that are cut at a mark: LF parts lines, a comma parts fields.
-use Rattle.std.specs.Prelude.{◌≡◌, ℕ, ◌+◌, List, [], ◌∷◌, ◌++◌, All, length, map, Some, None, Option, codes, ◌==◌, ◌≢◌}
+use Rattle.std.specs.Prelude.{◌≡◌, ℕ, ◌+◌, List, [], ◌∷◌, ◌++◌, All, length, Some, None, Option, ◌==◌, ◌≢◌}
 use Rattle.std.specs.Borrow.{Bor}
 use Rattle.std.specs.List.{slice_split, join_with_byte, count_by}
 
@@ -47,9 +47,3 @@ pub record Parting (mark : ℕ) : Type 0 where
   -- The first part ends at the first mark, whatever follows it.
   pub first : (front rest : List ℕ) → Lacks mark front
       → parted mark (front ++ (mark ∷ rest)) ≡ front ∷ parted mark rest
-
--- Lines by their fields: three, of which the last is empty; one; and an empty one of an empty line.
-abbrev pub Worked : Type 0
-Worked =
-    map (parted 44) (codes "place,7," ∷ codes "on" ∷ [] ∷ [])
-    ≡ (codes "place" ∷ codes "7" ∷ [] ∷ []) ∷ (codes "on" ∷ []) ∷ ([] ∷ []) ∷ []

@@ -28,7 +28,7 @@ use Rattle.sheet.specs.Lines.{Says, Tag, Page, Calls, word_of, kind_of, word_say
 use Rattle.sheet.specs.CallWords.{words, draw_text, ReadsFrame, CallWords}
 
 -- what the code read, by what the line says
-abbrev Reads : Result Says LineFault → Result Line LineFault → Type 0
+abbrev pub Reads : Result Says LineFault → Result Line LineFault → Type 0
 Reads (Ok (Tag kind draw)) r = r ≡ Ok (line.Tag kind draw)
 Reads (Ok (Page tag page bytes)) r = r ≡ Ok (line.Page tag page bytes)
 Reads (Ok (Calls calls.On)) r = r ≡ Ok (line.Calls call.On)
@@ -55,11 +55,11 @@ lacks_cons : (b t : Bool) (c : ℕ) (cs : List ℕ) → eqb c 44 ≡ b → (not 
 lacks_cons true t c cs e pass rest = absurd cc
 lacks_cons false t c cs e pass rest = All-cons (λ x. x ≢ 44) c cs (λ same. let is = eq-eqb c 44 same in cc) (rest pass)
 
-lacks : (text : List ℕ) → list_all (λ c. not (eqb c 44)) text ≡ true → Lacks 44 text
+pub lacks : (text : List ℕ) → list_all (λ c. not (eqb c 44)) text ≡ true → Lacks 44 text
 lacks [] pass = All-nil (λ x. x ≢ 44)
 lacks (c ∷ cs) pass = lacks_cons (eqb c 44) (list_all (λ x. not (eqb x 44)) cs) c cs refl pass (lacks cs)
 
-decimal_lacks : (n : ℕ) → n < 1000 → Lacks 44 (decimal n)
+pub decimal_lacks : (n : ℕ) → n < 1000 → Lacks 44 (decimal n)
 decimal_lacks n h =
     decimal_by_steps (λ k ds. Lacks 44 ds) (λ k small. All-cons (λ x. x ≢ 44) (48 + k) [] (λ e. absurd (omega arith)) (All-nil (λ x. x ≢ 44)))
     (λ k ds big front. All-append (λ x. x ≢ 44) ds ((48 + k % 10) ∷ []) front (All-cons (λ x. x ≢ 44) (48 + k % 10) [] (λ e. absurd (omega arith)) (All-nil (λ x. x ≢ 44))))
@@ -74,7 +74,7 @@ hex_lacks (b ∷ bs) =
     All-cons (λ x. x ≢ 44) (hex_digit (b / 16)) (hex_digit (b % 16) ∷ hex_text bs) (digit_lacks (b / 16))
     (All-cons (λ x. x ≢ 44) (hex_digit (b % 16)) (hex_text bs) (digit_lacks (b % 16)) (hex_lacks bs))
 
-one : (field : List ℕ) → Lacks 44 field → All (Lacks 44) (field ∷ [])
+pub one : (field : List ℕ) → Lacks 44 field → All (Lacks 44) (field ∷ [])
 one field lack = All-cons (Lacks 44) field [] lack (All-nil (Lacks 44))
 
 -- the fields of a line, and what they say
@@ -82,11 +82,11 @@ parts_are : (text first : List ℕ) (more : List (List ℕ)) → Lacks 44 first 
 parts_are text first more front rest e =
     ap (parted 44) e ∙ (parting 44).fields (first ∷ more) (λ none. cc) (All-cons (Lacks 44) first more front rest)
 
-says : (text first : List ℕ) (more : List (List ℕ)) → Lacks 44 first → All (Lacks 44) more → text ≡ joined (first ∷ more) → line_says text ≡ behind_say (word_of first) more
+pub says : (text first : List ℕ) (more : List (List ℕ)) → Lacks 44 first → All (Lacks 44) more → text ≡ joined (first ∷ more) → line_says text ≡ behind_say (word_of first) more
 says text first more front rest e = ap fields_say (parts_are text first more front rest e)
 
 -- a first field that is no word
-differs : (a b : List ℕ) → a ≢ b → bytes_eq a b ≡ false
+pub differs : (a b : List ℕ) → a ≢ b → bytes_eq a b ≡ false
 differs a b other = false_from_ne_true (bytes_eq a b) (λ e. other ((bytes_eq-Decides a b).0 e))
 
 no_word : (first : List ℕ) → All (λ w. first ≢ w.0) words → word_of first ≡ None
@@ -133,7 +133,7 @@ page_count (a ∷ b ∷ c ∷ []) h = absurd (h refl)
 page_count (a ∷ b ∷ c ∷ d ∷ more) h = refl
 
 module _ (text : List ℕ) (r : Result Line LineFault) (is : said_in r ≡ line_says text) where
-  by : (s : Result Says LineFault) → line_says text ≡ s → Reads s r
+  pub by : (s : Result Says LineFault) → line_says text ≡ s → Reads s r
   by s e = subst (λ (x : Result Says LineFault). Reads x r) (is ∙ e) (reads r)
 
   abbrev Miscounted : List ℕ × ℕ → Type 0

@@ -6,3 +6,4 @@ pub mod Loading
 pub mod TagLines
 pub mod CallWords
 pub mod SheetLines
+pub mod FieldForms

@@ -1,12 +1,16 @@
 -- A sheet runs its lines one after another.
-use Rattle.std.proofs.Common.{◌≡◌, ◌≢◌, ℕ, ◌+◌, ◌<◌, ◌≤◌, cond, eqb, leb, List, [], ◌∷◌, ◌++◌, All, length, None, sym, refl, ap, ◌∙◌, append_assoc, append-nil, arith}
+use Rattle.std.proofs.Common.{◌≡◌,  ℕ, ◌+◌, ◌<◌, ◌≤◌, cond, eqb, leb, List, [], ◌∷◌, ◌++◌, All, length, None, Ok, Err, Result, sym, refl, ap, ◌∙◌, append_assoc, append-nil, arith}
 use Rattle.std.proofs.lemmas.Bool.{cond-true, cond-false, le-leb, lt-leb, ne_eqb}
 use Rattle.std.proofs.lemmas.List.Elements.{All-head, All-tail, All-nil}
 use Rattle.parts.specs.Parts.{parted, lined, Lacks}
 use Rattle.parts.proofs.Cuts.{parts_some}
 use Rattle.parts.proofs.Parting.{parting}
-use Rattle.sheet.specs.Sheets.{Stage, Naming, Came, Went, Stopped, Run, stopped_at, before, go_on, line_does, lines_run, run_of}
-use Rattle.sheet.specs.SheetLines.{Short, Done, ends_at, Begins, SheetLines}
+use Rattle.tray_core.specs.declared.calls.Answer.{Answer}
+use Rattle.tray_core.specs.Step.{Asks}
+use Rattle.sheet.specs.declared.faults.LineFault.{LineFault}
+use Rattle.sheet.specs.Lines.{Says, Tag, Page, Calls, line_says}
+use Rattle.sheet.specs.Sheets.{Stage, Naming, Came, Run, stopped_at, answered, before, go_on, says_do, line_does, lines_run, run_of}
+use Rattle.sheet.specs.SheetLines.{Short, Done, Begins, SheetLines, LineDoes, LinesDo, comes}
 use Rattle.sheet.proofs.Ran.{onward, step}
 
 -- the run behind texts printed one after another
@@ -68,3 +72,24 @@ sheet_lines =
           ∙ ap (before text) (ap (lines_run (length lines + 1) stage) ((parting 10).lines [] line (All-nil (Lacks 10)) lack) ∙ cond-false _ _ _ (ne_eqb (length line) 0 (λ z. some (empty line z))));
       too_long = λ sheet long. cond-false _ _ _ (lt-leb (length sheet) 65536 long);
     }
+
+-- what a line does, by what it says
+module _ (number : ℕ) (line : List ℕ) (stage : Stage) where
+  by_said : (said : Result Says LineFault) → line_says line ≡ said → line_does number line stage ≡ says_do number said stage
+  by_said said e = ap (λ (s : Result Says LineFault). says_do number s stage) e
+
+  by_answer : (call : Asks) (a : Result Answer ℕ) → line_says line ≡ Ok (Calls call) → (comes number line stage call).answer ≡ a → line_does number line stage ≡ answered number a (comes number line stage call)
+  by_answer call a e is = by_said (Ok (Calls call)) e ∙ ap (λ (r : Result Answer ℕ). answered number r (comes number line stage call)) is
+
+  line_by_said : LineDoes number line stage
+  line_by_said =
+      record {
+        fault = λ f e. by_said (Err f) e;
+        tag = λ kind draw e. by_said (Ok (Tag kind draw)) e;
+        page = λ tag page bytes e. by_said (Ok (Page tag page bytes)) e;
+        answered = λ call answer e is. by_answer call (Ok answer) e is;
+        refused = λ call why e is. by_answer call (Err why) e is;
+      }
+
+pub lines_do : LinesDo
+lines_do number line stage = line_by_said number line stage

@@ -1,6 +1,7 @@
 pub mod Faults
 pub mod Lines
 pub mod CallWords
+pub mod FieldForms
 pub mod Printing
 pub mod Drafts
 pub mod Sheets

@@ -1,8 +1,15 @@
 -- Which lines a sheet runs, in which order, and where its run ends.
-use Rattle.std.specs.Prelude.{◌≡◌, ◌≢◌, ℕ, ◌+◌, ◌<◌, ◌≤◌, List, [], ◌∷◌, ◌++◌, All, length, Some, None}
+use Rattle.std.specs.Prelude.{◌≡◌, ◌≢◌, ℕ, ◌+◌, ◌<◌, ◌≤◌, List, [], ◌∷◌, ◌++◌, All, length, Some, None, Ok, Err}
 use Rattle.parts.specs.Parts.{lined, Lacks}
-use Rattle.sheet.specs.Printing.{printed_refusal}
-use Rattle.sheet.specs.Sheets.{Stage, Naming, Went, Stopped, Run, line_does, run_of}
+use Rattle.tray_core.specs.declared.calls.Answer.{Answer}
+use Rattle.tray_core.specs.Step.{Asks, Outcome}
+use Rattle.sheet.specs.declared.faults.LineFault.{LineFault}
+use Rattle.sheet.specs.declared.words.TagKind.{TagKind}
+use Rattle.sheet.specs.Faults.{fault_number}
+use Rattle.sheet.specs.Lines.{Tag, Page, Calls, line_says}
+use Rattle.sheet.specs.Played.{step_of}
+use Rattle.sheet.specs.Printing.{printed_answer, printed_refusal}
+use Rattle.sheet.specs.Sheets.{SheetTray, Stage, Naming, Calling, Came, Went, Stopped, Run, named, paged, tray_in, line_does, run_of}
 
 -- A line of 79 bytes or fewer. No byte but LF ends it.
 abbrev pub Short : List ℕ → Type 0
@@ -51,3 +58,31 @@ pub record SheetLines : Type 0 where
       → run_of (lined lines ++ line) ≡ ends_at (length lines + 1) 13 text
   -- More than 65,536 bytes are refused as a whole, at line 0.
   pub too_long : (sheet : List ℕ) → 65536 < length sheet → run_of sheet ≡ ends_at 0 12 []
+
+-- What a line does goes by what it says, and by where the run stands.
+module _ (number : ℕ) (line : List ℕ) (stage : Stage) where
+  abbrev pub does : Came
+  does = line_does number line stage
+
+  -- What comes of a call that is put to the tray at this stage.
+  abbrev pub comes : Asks → Outcome SheetTray
+  comes call = step_of (record { number = number; call = call }) (tray_in stage)
+
+  pub record LineDoes : Type 0 where
+    -- A fault of the line stops the run, wherever it stands.
+    pub fault : (f : LineFault) → line_says line ≡ Err f → does ≡ Stopped (fault_number f)
+    pub tag : (kind : TagKind) (draw : ℕ) → line_says line ≡ Ok (Tag kind draw)
+        → does ≡ named kind draw stage
+    pub page : (tag page : ℕ) (bytes : List ℕ) → line_says line ≡ Ok (Page tag page bytes)
+        → does ≡ paged tag page bytes stage
+    -- A call that is answered prints the answer, and the run stands at the tray that it left; one
+    -- that is refused stops the run with the refusal.
+    pub answered : (call : Asks) (answer : Answer) → line_says line ≡ Ok (Calls call)
+        → (comes call).answer ≡ Ok answer
+        → does ≡ Went (printed_answer number answer (comes call).buffer (comes call).list)
+        (Calling (comes call).tray)
+    pub refused : (call : Asks) (why : ℕ) → line_says line ≡ Ok (Calls call)
+        → (comes call).answer ≡ Err why → does ≡ Stopped why
+
+abbrev pub LinesDo : Type 0
+LinesDo = (number : ℕ) (line : List ℕ) (stage : Stage) → LineDoes number line stage

@@ -6,6 +6,7 @@ use Rattle.sheet.specs.declared.words.Word.{Word}
 use Rattle.sheet.specs.declared.words.Word.TheVariants.{Tag, Page, On, Off, Place, Lift, Stock, Send, Raw}
 use Rattle.sheet.specs.Lines.{behind_say, fields_say, word_of}
 use Rattle.sheet.proofs.CallWords.{call_words}
+use Rattle.sheet.proofs.FieldForms.{field_forms}
 use Rattle.sheet.proofs.lines.read_line.Goals as goal
 
 -- no word has four fields behind it
@@ -45,3 +46,6 @@ returns-clause-result c =
 
 pub returns-clause-words : goal.returns-clause-words
 returns-clause-words c = call_words c.args.line.now c.read_fields.result (returns-clause-result c)
+
+pub returns-clause-forms : goal.returns-clause-forms
+returns-clause-forms c = field_forms c.args.line.now c.read_fields.result (returns-clause-result c)
