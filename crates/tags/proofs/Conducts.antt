@@ -2,7 +2,7 @@
 use Rattle.std.proofs.Common.{◌≡◌, ℕ, ◌%◌, Bool, true, false, cond, not, ◌&&◌, eqb, ltb, List, [], ◌∷◌, replicate, Some, None, Option, sym, refl, ap, ◌∙◌, ⊎_elim, lit<}
 use Rattle.std.specs.Str.{bytes_eq}
 use Rattle.std.proofs.Math.Bool.{and-true, and-false}
-use Rattle.std.proofs.lemmas.Bool.{cond-false, cases_Bool, false≢true, eqb-true, ne_eqb, not-true}
+use Rattle.std.proofs.lemmas.Bool.{cond-false, cases_Bool, false≢true, ne_eqb, not-true}
 use Rattle.std.proofs.lemmas.Slice.Eq.{bytes_eq-Decides}
 use Rattle.typeb.specs.declared.frames.Op.{Op}
 use Rattle.typeb.specs.declared.frames.Op.TheVariants.{Read, Write, Lock, CheckPassword, Deselect, Count}
@@ -23,7 +23,7 @@ use Rattle.tags.specs.Rules.{reading_of, writing_of, ever_read, read_now, by_wri
 use Rattle.kinds.specs.Says.{Says, Page, Acknowledged, Refused}
 use Rattle.tags.specs.Tables.{StateTable, DrawTable}
 use Rattle.tags.proofs.Asked.{asked_yes, asked_on, after_read, after_write, after_lock, after_count}
-use Rattle.tags.proofs.Commands.{data_obeyed}
+use Rattle.tags.proofs.Commands.{pages_lie, data_obeyed, read_open}
 use Rattle.tags.proofs.Addressed.{obeyed_by}
 use Rattle.tags.proofs.Makings.{pump_making}
 use Rattle.tags.proofs.Replaced.{replaced_here}
@@ -218,28 +218,10 @@ module _ (page : ℕ) (bytes : List ℕ) (m : PumpMeaning) (said : (pump_writes 
   replaced : (pump_writes page bytes m).after ≡ with_page page bytes m
   replaced = ap (λ (r : Reaction PumpMeaning). r.after) (to_third ∙ asked_on (unlocked page (page_of 0 m)) 0x11 m (replies (with_page page bytes m) Acknowledged) free)
 
--- every page but the password can be read of an open tag
-readable : (page : ℕ) → (page ≡ 3 → ⊥) → (ever_read (reading_of page) ≡ true) × (read_now (reading_of page) true ≡ true)
-readable page other =
-    ⊎_elim
-    (λ (t : ltb page 3 ≡ true). simp t (refl, refl))
-    (λ (t : ltb page 3 ≡ false).
-    ⊎_elim
-    (λ (e : eqb page 3 ≡ true). absurd (other (eqb-true page 3 e)))
-    (λ (e : eqb page 3 ≡ false). simp (t, e) (refl, refl))
-    (cases_Bool (eqb page 3)))
-    (cases_Bool (ltb page 3))
-
-read_open : (page : ℕ) (m : PumpMeaning) → (page ≡ 3 → ⊥) → m.opened ≡ true → (pump_reads page m).says ≡ Some (Page (page_of page m))
-read_open page m other open_now =
-    let can = readable page other in
-    let now : read_now (reading_of page) m.opened ≡ true = ap (read_now (reading_of page)) open_now ∙ can.1 in
-    ap (λ (r : Reaction PumpMeaning). r.says) (asked_on (ever_read (reading_of page)) 0x21 m _ can.0 ∙ asked_on (read_now (reading_of page) m.opened) 0x41 m _ now)
-
 reads_back : ReadsBack
 reads_back page bytes m sized below eight other said =
     ap (λ (n : PumpMeaning). (pump_reads page n).says) (replaced page bytes m said)
-    ∙ read_open page (with_page page bytes m) other (opened page bytes m said)
+    ∙ ap (λ (r : Reaction PumpMeaning). r.says) (read_open page (with_page page bytes m) other (opened page bytes m said))
     ∙ ap (λ (p : List ℕ). Some (Page p)) (replaced_here m sized page below bytes eight)
 
 accepted_by : (test : Bool) (m : PumpMeaning) → (cond test (passed m) (failed m)).accepted ≡ test
@@ -312,6 +294,7 @@ conduct =
       deafness = deafness;
       power = power;
       frames = keeps_power;
+      pages_lie = pages_lie;
       data_obeyed = data_obeyed;
       obeys = obeyed_by pump_obeys;
       reads_back = reads_back;

@@ -14,7 +14,7 @@ use Rattle.tags.specs.Pages.{serial_in}
 use Rattle.tags.specs.Pump.{PumpMeaning, PumpSized, pump_acts, pump_obeys, pump_reads, pump_writes, pump_checks}
 use Rattle.kinds.specs.Reacts.{Reaction, unmoved, says_to}
 use Rattle.kinds.specs.Says.{Says, Answer, Card, Page, Acknowledged, Refused}
-use Rattle.tags.specs.DataLaws.{DataObeyed, Obeys}
+use Rattle.tags.specs.DataLaws.{IsWhole, PagesLie, DataObeyed, Obeys}
 use Rattle.tags.specs.MakingLaws.{PumpMaking}
 use Rattle.tags.specs.Tables.{StateTable, DrawTable}
 
@@ -231,6 +231,7 @@ pub record Conduct : Type 0 where
   pub deafness : Deafness
   pub power : (m : PumpMeaning) → Power m
   pub frames : FramesKeepPower
+  pub pages_lie : (m : PumpMeaning) → IsWhole m → PagesLie m
   pub data_obeyed : DataObeyed
   pub obeys : Obeys pump_obeys
   pub reads_back : ReadsBack
