@@ -10,13 +10,13 @@ use Rattle.kinds.specs.Says.{Page, Acknowledged, Refused}
 use Rattle.tags.specs.declared.rights.Reading.{Reading}
 use Rattle.tags.specs.declared.rights.Reading.TheVariants.{Always, WhenOpen, Never}
 use Rattle.tags.specs.Common.{with_opened}
-use Rattle.tags.specs.DataLaws.{memory_of, eight_from, IsBytes, IsWhole, IsPage, ChangesOnly, locks_in, locks_page, counter_of, IsRefused, Reads, Writes, Locks, Counts, Checks, DataObeyed}
+use Rattle.tags.specs.DataLaws.{memory_of, eight_from, IsBytes, IsWhole, IsPage, ChangesOnly, locks_in, locks_page, counter_of, IsRefused, Reads, Writes, Locks, Counts, Checks, PagesLie, DataObeyed}
 use Rattle.tags.specs.Pages.{unlocked, locked_by, counter_in, counted_by}
 use Rattle.tags.specs.Pump.{PumpMeaning, asks, page_of, with_page, passes, pump_reads, pump_writes, pump_locks, pump_checks, pump_counts}
 use Rattle.tags.specs.Rules.{reading_of, writing_of, ever_read, read_now, by_write}
 use Rattle.tags.proofs.Asked.{asked_on, asked_off}
 use Rattle.tags.proofs.Bytes.{eight_whole, byte_whole, page_bytes, byte_put, after_whole, changes_only, locks_whole, counter_whole}
-use Rattle.tags.proofs.LockBits.{unlocked_is, locks_after, locked_bytes}
+use Rattle.tags.proofs.LockBits.{lock_bit_is, unlocked_is, locks_after, locked_bytes}
 use Rattle.tags.proofs.Locks.{locked_long, counted_long, counted_one}
 use Rattle.tags.proofs.Replaced.{page_long, replaced_here}
 
@@ -52,6 +52,16 @@ read_stays Always page m = refl
 read_stays WhenOpen page m = one_way m.opened 0x41 m (page_of page m)
 read_stays Never page m = refl
 
+-- an open tag gives every page but the password
+pub read_open : (page : ℕ) (m : PumpMeaning) → (page ≡ 3 → ⊥) → m.opened ≡ true → pump_reads page m ≡ replies m (Page (page_of page m))
+read_open page m other open_now =
+    ⊎_elim
+    (λ (l : page < 3). ap (λ (k : Reading). read_by k page m) (always page l))
+    (λ (g : 3 ≤ page).
+    ap (λ (k : Reading). read_by k page m) (when_open page (omega arith))
+    ∙ asked_on m.opened 0x41 m (replies m (Page (page_of page m))) open_now)
+    (cases_lt page 3)
+
 read_lem : (page : ℕ) (m : PumpMeaning) → IsWhole m → page < 32 → Reads page m (pump_reads page m)
 read_lem page m whole below =
     let given : Page (page_of page m) ≡ Page (eight_from (8 * page) (memory_of m)) = ap Page (eight_whole m whole.sized page below) in
@@ -59,7 +69,7 @@ read_lem page m whole below =
     record {
       shown = λ (l : page < 3). ap says (ap (λ (k : Reading). read_by k page m) (always page l)) ∙ ap Some given;
       opened = λ (g : 3 < page) (o : m.opened ≡ true).
-          ap says (ap (λ (k : Reading). read_by k page m) (when_open page g) ∙ asked_on m.opened 0x41 m (replies m (Page (page_of page m))) o) ∙ ap Some given;
+          ap says (read_open page m (λ (e : page ≡ 3). omega arith) o) ∙ ap Some given;
       password = λ (e : page ≡ 3). ap says (ap (λ (n : ℕ). read_by (reading_of n) page m) e);
       closed = λ (g : 3 < page) (o : m.opened ≡ false).
           ap says (ap (λ (k : Reading). read_by k page m) (when_open page g) ∙ asked_off m.opened 0x41 m (replies m (Page (page_of page m))) o);
@@ -246,6 +256,16 @@ check_lem bytes m whole =
       ones = λ is. says.1 (and_left (not ones) same (not_from_true ones ((bytes_eq-Decides bytes (replicate 8 0xFF)).1 is)));
       pages = cond_both (passes bytes m) done not_done (λ (r : Reaction PumpMeaning). r.after.shown.pages ≡ m.shown.pages) (λ _. refl) (λ _. refl);
       hidden = cond_both (passes bytes m) done not_done (λ (r : Reaction PumpMeaning). r.after.hidden ≡ m.hidden) (λ _. refl) (λ _. refl);
+    }
+
+pub pages_lie : (m : PumpMeaning) → IsWhole m → PagesLie m
+pages_lie m whole =
+    record {
+      pages = eight_whole m whole.sized;
+      locks = λ page below.
+          lock_bit_is (page_of 0 m) page (page_bytes m whole 0 (lit< tt)) below
+          ∙ ap (λ (n : ℕ). bit_at n page) (locks_whole m whole.sized);
+      counter = counter_whole m whole.sized;
     }
 
 pub data_obeyed : DataObeyed

@@ -2,7 +2,7 @@
 use Rattle.std.proofs.Common.{◌≡◌, ℕ, ◌%◌, Bool, true, false, cond, not, ◌&&◌, eqb, ltb, List, [], ◌∷◌, replicate, Some, None, Option, sym, refl, ap, ◌∙◌, ⊎_elim, lit<}
 use Rattle.std.specs.Str.{bytes_eq}
 use Rattle.std.proofs.Math.Bool.{and-true, and-false}
-use Rattle.std.proofs.lemmas.Bool.{cases_Bool, eqb-true}
+use Rattle.std.proofs.lemmas.Bool.{cases_Bool, eqb-true, cond-false, false≢true, ne_eqb, not-true}
 use Rattle.std.proofs.lemmas.Slice.Eq.{bytes_eq-Decides}
 use Rattle.typeb.specs.declared.frames.Op.{Op}
 use Rattle.typeb.specs.declared.frames.Op.TheVariants.{Read, Write, Lock, CheckPassword, Deselect, Count}
@@ -15,9 +15,9 @@ use Rattle.tags.specs.Pages.{unlocked, locked_by, counter_in, counted_by}
 use Rattle.tags.specs.Pump.{PumpMeaning, pump_acts, pump_obeys, pump_reads, pump_writes, pump_checks, asks, passes, page_of, with_page}
 use Rattle.kinds.specs.Reacts.{Reaction, answered, unmoved, replies, says_at}
 use Rattle.tags.specs.Rules.{reading_of, writing_of, ever_read, read_now, by_write}
-use Rattle.kinds.specs.Says.{Page, Acknowledged, Refused}
+use Rattle.kinds.specs.Says.{Page, Acknowledged, Refused, Says}
 use Rattle.tags.proofs.Asked.{after_read, after_write, after_lock, after_count, asked_yes, asked_on}
-use Rattle.tags.proofs.Commands.{data_obeyed}
+use Rattle.tags.proofs.Commands.{data_obeyed, pages_lie, read_open}
 use Rattle.tags.proofs.Makings.{pump_making}
 use Rattle.tags.proofs.Replaced.{replaced_here}
 use Rattle.tags.proofs.Staying.{keeps_power}
@@ -147,28 +147,10 @@ module _ (page : ℕ) (bytes : List ℕ) (m : PumpMeaning) (said : (pump_writes 
   replaced : (pump_writes page bytes m).after ≡ with_page page bytes m
   replaced = ap (λ (r : Reaction PumpMeaning). r.after) (to_third ∙ asked_on (unlocked page (page_of 0 m)) 0x11 m (replies (with_page page bytes m) Acknowledged) free)
 
--- every page but the password can be read of an open tag
-readable : (page : ℕ) → (page ≡ 3 → ⊥) → (ever_read (reading_of page) ≡ true) × (read_now (reading_of page) true ≡ true)
-readable page other =
-    ⊎_elim
-    (λ (t : ltb page 3 ≡ true). simp t (refl, refl))
-    (λ (t : ltb page 3 ≡ false).
-    ⊎_elim
-    (λ (e : eqb page 3 ≡ true). absurd (other (eqb-true page 3 e)))
-    (λ (e : eqb page 3 ≡ false). simp (t, e) (refl, refl))
-    (cases_Bool (eqb page 3)))
-    (cases_Bool (ltb page 3))
-
-read_open : (page : ℕ) (m : PumpMeaning) → (page ≡ 3 → ⊥) → m.opened ≡ true → (pump_reads page m).says ≡ Some (Page (page_of page m))
-read_open page m other open_now =
-    let can = readable page other in
-    let now : read_now (reading_of page) m.opened ≡ true = ap (read_now (reading_of page)) open_now ∙ can.1 in
-    ap (λ (r : Reaction PumpMeaning). r.says) (asked_on (ever_read (reading_of page)) 0x21 m _ can.0 ∙ asked_on (read_now (reading_of page) m.opened) 0x41 m _ now)
-
 reads_back : ReadsBack
 reads_back page bytes m sized below eight other said =
     ap (λ (n : PumpMeaning). (pump_reads page n).says) (replaced page bytes m said)
-    ∙ read_open page (with_page page bytes m) other (opened page bytes m said)
+    ∙ ap (λ (r : Reaction PumpMeaning). r.says) (read_open page (with_page page bytes m) other (opened page bytes m said))
     ∙ ap (λ (p : List ℕ). Some (Page p)) (replaced_here m sized page below bytes eight)
 
 accepted_by : (test : Bool) (m : PumpMeaning) → (cond test (passed m) (failed m)).accepted ≡ test
@@ -211,6 +193,7 @@ conduct =
       goes_by = pump_goes_by;
       link_stays = link_stays;
       frames = keeps_power;
+      pages_lie = pages_lie;
       data_obeyed = data_obeyed;
       reads_back = reads_back;
       password_counts = password_counts;

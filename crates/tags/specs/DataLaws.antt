@@ -7,8 +7,10 @@ use Rattle.typeb.specs.declared.frames.Op.TheVariants.{Read, Write, Lock, CheckP
 use Rattle.kinds.specs.Kinds.{Meaning}
 use Rattle.kinds.specs.Reacts.{Reaction}
 use Rattle.kinds.specs.Says.{Page, Acknowledged, Refused}
-use Rattle.tags.specs.Common.{Shown}
-use Rattle.tags.specs.Pump.{PumpMeaning, PumpSized, pump_obeys}
+use Rattle.tags.specs.Common.{Shown, reacts_by}
+use Rattle.tags.specs.Pump.{PumpMeaning, PumpSized, pump_obeys, page_of}
+use Rattle.tags.specs.declared.link.State.TheVariants.{Active}
+use Rattle.tags.specs.Pages.{lock_bit, counter_in}
 
 -- The memory of a pump tag, in order: page p is bytes 8 p to 8 p + 7.
 abbrev pub memory_of : PumpMeaning → List ℕ
@@ -66,6 +68,13 @@ pub record IsRefused (code : ℕ) (m : PumpMeaning) (r : PumpReaction) : Type 0 
 -- The eight bytes of a page.
 abbrev pub page_in : ℕ → PumpMeaning → List ℕ
 page_in page m = eight_from (8 * page) (memory_of m)
+
+-- The pages, lock bits and counter of which the laws over runs speak are these bytes and bits.
+pub record PagesLie (m : PumpMeaning) : Type 0 where
+  pub pages : (page : ℕ) → page < 32 → page_of page m ≡ page_in page m
+  pub locks : (page : ℕ) → page < 32
+      → lock_bit page (page_of 0 m) ≡ bit_at (locks_in (memory_of m)) page
+  pub counter : counter_in (page_of 2 m) ≡ counter_of m
 
 -- READ gives the eight bytes of a page: of pages 0 to 2 always, of page 3 never, of the others while the
 -- tag is open. It changes nothing.
