@@ -1,5 +1,5 @@
 -- What a tag goes by: two frames that agree on it are one to every kind.
-use Rattle.std.proofs.Common.{◌≡◌, ℕ, ◌+◌, ◌*◌, ◌%◌, ◌<◌, Bool, true, false, cond, ◌&&◌, leb, ltb, List, [], ◌∷◌, Some, None, Option, sym, refl, ap, ◌∙◌, arith}
+use Rattle.std.proofs.Common.{◌≡◌, ℕ, ◌+◌, ◌*◌, ◌%◌, Bool, true, false, cond, ◌&&◌, ltb, List, [], ◌∷◌, Some, None, Option, sym, refl, ap, ◌∙◌, arith}
 use Rattle.std.specs.Str.{bytes_eq}
 use Rattle.std.proofs.lemmas.Bool.{le-leb, lt-leb}
 use Rattle.typeb.specs.declared.frames.Op.{Op}
@@ -10,9 +10,10 @@ use Rattle.typeb.specs.Hears.{Heard, Request, Attrib, Command, slot_count, head_
 use Rattle.kinds.specs.Kinds.{Meaning, Hears}
 use Rattle.kinds.specs.Says.{Says, Card, Acknowledged, Refused, reply_bytes, said_body}
 use Rattle.kinds.specs.Reacts.{Reaction, unmoved, replies, answered}
+use Rattle.tags.specs.declared.link.Link.{Link}
 use Rattle.tags.specs.declared.link.State.TheVariants.{Active}
 use Rattle.tags.specs.Common.{Shown, by_link, with_opened, reacts_by}
-use Rattle.tags.specs.Links.{LinkHears, hears_attrib, is_declared, listens, requested, moved, dismissed, answers_to}
+use Rattle.tags.specs.Links.{LinkHears, is_declared, listens, requested, moved, dismissed, answers_to}
 use Rattle.tags.specs.Links as links
 use Rattle.tags.specs.Pages.{serial_in, unlocked, counter_in}
 use Rattle.tags.specs.Gauge.{gauge_obeys}
@@ -72,19 +73,11 @@ module _ {H : Type 0} where
   if_mine false m r unpaged = λ op cid j k bytes others. refl
 
   module _ (obeys : Op → ℕ → List ℕ → Meaning Shown H → Reaction (Meaning Shown H)) (by : Obeying obeys) (m : Meaning Shown H) where
-    abbrev asked : Bool → ℕ → Slots → Reaction (Meaning Shown H)
-    asked wake_up family slots = reacts_by obeys (Request family wake_up slots) m
-
-    own_family : (family other : ℕ) (wake_up : Bool) (slots : Slots) → family < 2 → other < 2 → asked wake_up family slots ≡ asked wake_up other slots
-    own_family family other wake_up slots below under =
-        ap (λ (b : Bool). by_link (cond (listens m.shown.link.state wake_up) (cond b (requested (answer m) (slot_count slots) m.shown.link) (moved m.shown.link (dismissed m.shown.link.state) None)) (links.unmoved m.shown.link)) m)
-        (le-leb family 1 (omega arith) ∙ sym (le-leb other 1 (omega arith)))
-
-    dismisses : (family : ℕ) (wake_up : Bool) (slots : Slots) → leb family 1 ≡ false
-        → asked wake_up family slots ≡ by_link (cond (listens m.shown.link.state wake_up) (moved m.shown.link (dismissed m.shown.link.state) None) (links.unmoved m.shown.link)) m
-    dismisses family wake_up slots above =
-        ap (λ (b : Bool). by_link (cond (listens m.shown.link.state wake_up) (cond b (requested (answer m) (slot_count slots) m.shown.link) (moved m.shown.link (dismissed m.shown.link.state) None)) (links.unmoved m.shown.link)) m)
-        above
+    -- a request, by whether its family is 0 or 1
+    abbrev asked : Bool → Bool → Slots → Reaction (Meaning Shown H)
+    asked own wake_up slots =
+        let link : Link = m.shown.link in
+        by_link (cond (listens link.state wake_up) (cond own (requested (answer m) (slot_count slots) link) (moved link (dismissed link.state) None)) (links.unmoved link)) m
 
     -- a data command: obeyed alike, and answered in the same bytes
     mine : (cid : ℕ) (r q : Reaction (Meaning Shown H)) → r ≡ q → cond (answers_to cid m.shown.link) r (unmoved m) ≡ cond (answers_to cid m.shown.link) q (unmoved m)
@@ -103,11 +96,13 @@ module _ {H : Type 0} where
 
     agreed : {a b : Heard} → Agree a b → answered (reacts_by obeys) m (Some a) ≡ answered (reacts_by obeys) m (Some b)
     agreed (SameRequest family other wake_up slots below under) =
-        alike (Request family wake_up slots) (Request other wake_up slots) _ _ (own_family family other wake_up slots below under)
+        alike (Request family wake_up slots) (Request other wake_up slots) _ _
+        (ap (λ (own : Bool). asked own wake_up slots) (le-leb family 1 (omega arith) ∙ sym (le-leb other 1 (omega arith))))
         (requests_reply family other wake_up wake_up slots slots _)
     agreed (OtherRequest family other wake_up slots more above over) =
         alike (Request family wake_up slots) (Request other wake_up more) _ _
-        (dismisses family wake_up slots (lt-leb family 1 (omega arith)) ∙ sym (dismisses other wake_up more (lt-leb other 1 (omega arith))))
+        (ap (λ (own : Bool). asked own wake_up slots) (lt-leb family 1 (omega arith))
+        ∙ sym (ap (λ (own : Bool). asked own wake_up more) (lt-leb other 1 (omega arith))))
         (requests_reply family other wake_up wake_up slots more _)
     agreed (SameMarker slot) = refl
     agreed (SameAttrib serial p q r s t u high higher card inf others small) =

@@ -1,5 +1,5 @@
 -- Every kind keeps the laws of the link, however it obeys data commands.
-use Rattle.std.proofs.Common.{◌≡◌, ℕ, ◌+◌, ◌*◌, ◌/◌, ◌%◌, ◌<◌, ◌≤◌, Bool, true, false, cond, ◌&&◌, eqb, leb, List, [], ◌∷◌, ◌++◌, length, take, drop, Some, None, sym, refl, ap, ◌∙◌, ⊎_elim, append_assoc, arith}
+use Rattle.std.proofs.Common.{◌≡◌, ℕ, ◌+◌, ◌*◌, ◌/◌, ◌%◌, ◌<◌, ◌≤◌, Bool, true, false, cond, not, ◌&&◌, eqb, leb, List, [], ◌∷◌, ◌++◌, length, take, drop, Some, None, sym, refl, ap, ◌∙◌, ⊎_elim, append_assoc, arith}
 use Rattle.std.specs.Str.{bytes_eq}
 use Rattle.std.proofs.Math.Bool.{and-false}
 use Rattle.std.proofs.lemmas.List.{take_at, drop_at, length-append}
@@ -19,8 +19,8 @@ use Rattle.tags.specs.Common.{Shown, by_link, reacts_by, acts_by}
 use Rattle.tags.specs.Links.{LinkHears, drawn, hears_marker, requested, moved, dismissed, listens, powered, is_declared, is_active, answers_to}
 use Rattle.tags.specs.Links as links
 use Rattle.tags.specs.Pages.{serial_in, application_in}
-use Rattle.tags.proofs.LinkStates.{listening, not_listening, dismissed_idle, not_its_slot, not_waiting, not_declared_lem, not_active, stays_on}
-use Rattle.tags.specs.LinkLaws.{LinkLaws, Deafness, Requests, Markers, Selection, Power, DrawsSlot, Draws, OwnBytes, atqb_of, passes_by, in_state, selected, silently, drawn_to}
+use Rattle.tags.proofs.LinkStates.{listens_is, declared_is, active_is, other_waits, not_its_slot, dismissed_idle, stays_on}
+use Rattle.tags.specs.LinkLaws.{LinkLaws, Deafness, Requests, Markers, Selection, Power, DrawsSlot, Draws, OwnBytes, atqb_of, passes_by, not_declared, in_state, selected, silently, drawn_to}
 
 -- what a tag names itself by stands at the front of its pages
 serial_is : (pages : List ℕ) (own : OwnBytes pages) → serial_in pages ≡ own.serial
@@ -49,7 +49,7 @@ differ xs ys apart =
     (cases_Bool (bytes_eq xs ys))
 
 -- the slot and the next draw number that are drawn
-pub draws : (n draw : ℕ) → 0 < n → Draws n draw (1 + draw / 4096 % n) ((draw * 25173 + 13849) % 65536)
+draws : (n draw : ℕ) → 0 < n → Draws n draw (drawn draw n).0 (drawn draw n).1
 draws n draw some =
     record {
       top = draw / 4096;
@@ -89,13 +89,16 @@ module _ {H : Type 0} (m : Meaning Shown H) where
   own_answer : (n : Meaning Shown H) (own : OwnBytes m.shown.pages) → replies n answer ≡ replies n (atqb_of own)
   own_answer n own = ap (replies n) (answer_is m.shown.pages own)
 
-  draws_slot : (n : ℕ) → 0 < n → eqb n 1 ≡ false → DrawsSlot n m (by_link (requested answer n link) m)
+  -- a slot of several is drawn by an idle tag
+  draws_slot : (n : ℕ) → 0 < n → eqb n 1 ≡ false
+      → DrawsSlot n m (by_link (requested answer n (in_state Idle m).shown.link) (in_state Idle m))
   draws_slot n some several =
-      let slot : ℕ = 1 + link.draw / 4096 % n in
-      let next : ℕ = (link.draw * 25173 + 13849) % 65536 in
+      let slot : ℕ = (drawn link.draw n).0 in
+      let next : ℕ = (drawn link.draw n).1 in
       let by : Bool → LinkHears =
       λ (b : Bool). record { after = record { state = cond b Declared (Requested slot); cid = link.cid; draw = next }; says = cond b (Some answer) None } in
-      let is : by_link (requested answer n link) m ≡ by_link (by (eqb slot 1)) m = linked _ _ (cond-false (eqb n 1) _ _ several) in
+      let is : by_link (requested answer n (in_state Idle m).shown.link) (in_state Idle m) ≡ by_link (by (eqb slot 1)) m =
+      ap (λ (l : LinkHears). by_link l m) (cond-false (eqb n 1) _ _ several) in
       record {
         slot = slot;
         next = next;
@@ -105,20 +108,24 @@ module _ {H : Type 0} (m : Meaning Shown H) where
       }
 
 module _ {H : Type 0} (obeys : Op → ℕ → List ℕ → Meaning Shown H → Reaction (Meaning Shown H)) where
+  -- ATTRIB and HLTB, of whatever serial number, where the tag is not declared
+  undeclared : (named : List ℕ) (m : Meaning Shown H) → not_declared m.shown.link.state ≡ true
+      → (is_declared m.shown.link.state && bytes_eq named (serial_in m.shown.pages)) ≡ false
+  undeclared named m h =
+      ap (λ (b : Bool). b && bytes_eq named (serial_in m.shown.pages)) (declared_is m.shown.link.state ∙ ap not h)
+
   deafness : Deafness obeys
   deafness (Request family wake_up slots) m h =
-      linked m _ (links.unmoved m.shown.link) (cond-false (listens m.shown.link.state wake_up) _ _ (not_listening family wake_up slots m.shown.link.state h))
-  deafness (SlotMarker slot) m h = linked m _ (links.unmoved m.shown.link) (not_waiting _ slot m.shown.link m.shown.link.state h)
-  deafness (Attrib serial params inf) m h =
       linked m _ (links.unmoved m.shown.link)
-      (cond-false (is_declared m.shown.link.state && bytes_eq serial (serial_in m.shown.pages)) _ _
-      (ap (λ (b : Bool). b && bytes_eq serial (serial_in m.shown.pages)) (not_declared_lem m.shown.link.state h)))
-  deafness (Halt serial) m h =
+      (cond-false (listens m.shown.link.state wake_up) _ _ (listens_is family wake_up slots m.shown.link.state ∙ ap not h))
+  deafness (SlotMarker slot) m h =
       linked m _ (links.unmoved m.shown.link)
-      (cond-false (is_declared m.shown.link.state && bytes_eq serial (serial_in m.shown.pages)) _ _
-      (ap (λ (b : Bool). b && bytes_eq serial (serial_in m.shown.pages)) (not_declared_lem m.shown.link.state h)))
+      (not_its_slot (answer m) slot m.shown.link m.shown.link.state (other_waits slot m.shown.link.state h))
+  deafness (Attrib serial params inf) m h = linked m _ (links.unmoved m.shown.link) (cond-false _ _ _ (undeclared serial m h))
+  deafness (Halt serial) m h = linked m _ (links.unmoved m.shown.link) (cond-false _ _ _ (undeclared serial m h))
   deafness (Command op cid address bytes) m h =
-      cond-false (answers_to cid m.shown.link) _ _ (ap (λ (b : Bool). b && eqb cid m.shown.link.cid) (not_active op cid address bytes m.shown.link.state h))
+      cond-false (answers_to cid m.shown.link) _ _
+      (ap (λ (b : Bool). b && eqb cid m.shown.link.cid) (active_is op cid address bytes m.shown.link.state ∙ ap not h))
 
   -- a request that is heard, of this family and of another
   heard_request : (family : ℕ) (wake_up : Bool) (slots : Slots) (m : Meaning Shown H)
@@ -126,7 +133,7 @@ module _ {H : Type 0} (obeys : Op → ℕ → List ℕ → Meaning Shown H → R
       → reacts_by obeys (Request family wake_up slots) m
       ≡ by_link (cond (leb family 1) (requested (answer m) (slot_count slots) m.shown.link) (moved m.shown.link (dismissed m.shown.link.state) None)) m
   heard_request family wake_up slots m h =
-      linked m _ _ (cond-true (listens m.shown.link.state wake_up) _ _ (listening family wake_up slots m.shown.link.state h))
+      linked m _ _ (cond-true (listens m.shown.link.state wake_up) _ _ (listens_is family wake_up slots m.shown.link.state ∙ ap not h))
 
   as_in_idle : (family : ℕ) (wake_up : Bool) (slots : Slots) (m : Meaning Shown H)
       → family < 2 → passes_by (Request family wake_up slots) m.shown.link.state ≡ false
@@ -201,16 +208,16 @@ module _ {H : Type 0} (obeys : Op → ℕ → List ℕ → Meaning Shown H → R
       → reacts_by obeys (Attrib own.serial (p ∷ q ∷ r ∷ (16 * high + card) ∷ []) inf) m ≡ replies (selected card m) (Card card)
   selects p q r high card inf m own declared small =
       let low : (16 * high + card) % 16 ≡ card = omega arith in
-      linked m _ _ (cond-true (is_declared m.shown.link.state && bytes_eq own.serial (serial_in m.shown.pages)) _ _ (is_for m own declared))
+      linked m _ _ (cond-true _ _ _ (is_for m own declared))
       ∙ ap (λ (c : ℕ). replies (selected c m) (Card c)) low
 
   selection : Selection obeys
   selection =
       record {
         attrib = selects;
-        hltb = λ m own declared. linked m _ (moved m.shown.link Halted (Some Acknowledged)) (cond-true (is_declared m.shown.link.state && bytes_eq own.serial (serial_in m.shown.pages)) _ _ (is_for m own declared));
-        other_attrib = λ named params inf m own apart. linked m _ (links.unmoved m.shown.link) (cond-false (is_declared m.shown.link.state && bytes_eq named (serial_in m.shown.pages)) _ _ (not_for named m own apart));
-        other_hltb = λ named m own apart. linked m _ (links.unmoved m.shown.link) (cond-false (is_declared m.shown.link.state && bytes_eq named (serial_in m.shown.pages)) _ _ (not_for named m own apart));
+        hltb = λ m own declared. linked m _ (moved m.shown.link Halted (Some Acknowledged)) (cond-true _ _ _ (is_for m own declared));
+        other_attrib = λ named params inf m own apart. linked m _ (links.unmoved m.shown.link) (cond-false _ _ _ (not_for named m own apart));
+        other_hltb = λ named m own apart. linked m _ (links.unmoved m.shown.link) (cond-false _ _ _ (not_for named m own apart));
       }
 
   own_card : (op : Op) (turns page : ℕ) (bytes : List ℕ) (m : Meaning Shown H) → m.shown.link.state ≡ Active → page < 32

@@ -1,6 +1,6 @@
 -- What the link does in each state: who hears a request, a marker, and the rest.
-use Rattle.std.proofs.Common.{◌≡◌, ℕ, Bool, true, false, eqb, List, sym, refl, ap}
-use Rattle.std.proofs.lemmas.Bool.{cond-false, false≢true, ne_eqb, not-true}
+use Rattle.std.proofs.Common.{◌≡◌, ℕ, Bool, true, false, not, eqb, List, sym, refl, ap, ◌∙◌}
+use Rattle.std.proofs.lemmas.Bool.{cond-false, false≢true, ne_eqb, eq-eqb}
 use Rattle.typeb.specs.declared.frames.Op.{Op}
 use Rattle.typeb.specs.declared.frames.Slots.{Slots}
 use Rattle.typeb.specs.Hears.{Request, SlotMarker, Command}
@@ -12,31 +12,38 @@ use Rattle.tags.specs.Links.{hears_marker, dismissed, listens, powered, is_off, 
 use Rattle.tags.specs.Links as links
 use Rattle.tags.specs.LinkLaws.{passes_by, not_declared}
 
-pub listening : (family : ℕ) (wake_up : Bool) (slots : Slots) (s : State) → passes_by (Request family wake_up slots) s ≡ false → listens s wake_up ≡ true
-listening family wake_up slots Off h = absurd (false≢true (sym h))
-listening family wake_up slots Idle h = refl
-listening family wake_up slots (Requested slot) h = refl
-listening family wake_up slots Declared h = refl
-listening family true slots Halted h = refl
-listening family false slots Halted h = absurd (false≢true (sym h))
-listening family wake_up slots Active h = absurd (false≢true (sym h))
+-- a request is listened to where it does not pass by; so are the others
+pub listens_is : (family : ℕ) (wake_up : Bool) (slots : Slots) (s : State)
+    → listens s wake_up ≡ not (passes_by (Request family wake_up slots) s)
+listens_is family wake_up slots Off = refl
+listens_is family wake_up slots Idle = refl
+listens_is family wake_up slots (Requested slot) = refl
+listens_is family wake_up slots Declared = refl
+listens_is family true slots Halted = refl
+listens_is family false slots Halted = refl
+listens_is family wake_up slots Active = refl
 
-pub not_listening : (family : ℕ) (wake_up : Bool) (slots : Slots) (s : State) → passes_by (Request family wake_up slots) s ≡ true → listens s wake_up ≡ false
-not_listening family wake_up slots Off h = refl
-not_listening family wake_up slots Idle h = absurd (false≢true h)
-not_listening family wake_up slots (Requested slot) h = absurd (false≢true h)
-not_listening family wake_up slots Declared h = absurd (false≢true h)
-not_listening family true slots Halted h = absurd (false≢true h)
-not_listening family false slots Halted h = refl
-not_listening family wake_up slots Active h = refl
+pub declared_is : (s : State) → is_declared s ≡ not (not_declared s)
+declared_is Off = refl
+declared_is Idle = refl
+declared_is (Requested slot) = refl
+declared_is Declared = refl
+declared_is Halted = refl
+declared_is Active = refl
 
-pub dismissed_idle : (s : State) → (s ≡ Halted → ⊥) → dismissed s ≡ Idle
-dismissed_idle Off h = refl
-dismissed_idle Idle h = refl
-dismissed_idle (Requested slot) h = refl
-dismissed_idle Declared h = refl
-dismissed_idle Halted h = absurd (h refl)
-dismissed_idle Active h = refl
+pub active_is : (op : Op) (cid address : ℕ) (bytes : List ℕ) (s : State)
+    → is_active s ≡ not (passes_by (Command op cid address bytes) s)
+active_is op cid address bytes Off = refl
+active_is op cid address bytes Idle = refl
+active_is op cid address bytes (Requested slot) = refl
+active_is op cid address bytes Declared = refl
+active_is op cid address bytes Halted = refl
+active_is op cid address bytes Active = refl
+
+-- a marker that passes by is not that of the slot that is waited for, and another is not answered
+pub other_waits : (slot : ℕ) (s : State) → passes_by (SlotMarker slot) s ≡ true → s ≡ Requested slot → ⊥
+other_waits slot s h e =
+    false≢true (sym (ap not (eq-eqb slot slot refl)) ∙ sym (ap (passes_by (SlotMarker slot)) e) ∙ h)
 
 pub not_its_slot : (answer : Says) (slot : ℕ) (link : Link) (s : State) → (s ≡ Requested slot → ⊥) → hears_marker answer slot link s ≡ links.unmoved link
 not_its_slot answer slot link Off h = refl
@@ -46,29 +53,14 @@ not_its_slot answer slot link Declared h = refl
 not_its_slot answer slot link Halted h = refl
 not_its_slot answer slot link Active h = refl
 
-pub not_waiting : (answer : Says) (slot : ℕ) (link : Link) (s : State) → passes_by (SlotMarker slot) s ≡ true → hears_marker answer slot link s ≡ links.unmoved link
-not_waiting answer slot link Off h = refl
-not_waiting answer slot link Idle h = refl
-not_waiting answer slot link (Requested own) h = cond-false (eqb own slot) _ _ (not-true (eqb own slot) h)
-not_waiting answer slot link Declared h = refl
-not_waiting answer slot link Halted h = refl
-not_waiting answer slot link Active h = refl
-
-pub not_declared_lem : (s : State) → not_declared s ≡ true → is_declared s ≡ false
-not_declared_lem Off h = refl
-not_declared_lem Idle h = refl
-not_declared_lem (Requested slot) h = refl
-not_declared_lem Declared h = absurd (false≢true h)
-not_declared_lem Halted h = refl
-not_declared_lem Active h = refl
-
-pub not_active : (op : Op) (cid address : ℕ) (bytes : List ℕ) (s : State) → passes_by (Command op cid address bytes) s ≡ true → is_active s ≡ false
-not_active op cid address bytes Off h = refl
-not_active op cid address bytes Idle h = refl
-not_active op cid address bytes (Requested slot) h = refl
-not_active op cid address bytes Declared h = refl
-not_active op cid address bytes Halted h = refl
-not_active op cid address bytes Active h = absurd (false≢true h)
+-- a request to another family dismisses, power stays where it is
+pub dismissed_idle : (s : State) → (s ≡ Halted → ⊥) → dismissed s ≡ Idle
+dismissed_idle Off h = refl
+dismissed_idle Idle h = refl
+dismissed_idle (Requested slot) h = refl
+dismissed_idle Declared h = refl
+dismissed_idle Halted h = absurd (h refl)
+dismissed_idle Active h = refl
 
 pub stays_on : (s : State) → (s ≡ Off → ⊥) → powered s ≡ s
 stays_on Off h = absurd (h refl)
