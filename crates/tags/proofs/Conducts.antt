@@ -1,8 +1,7 @@
 -- How a pump tag conducts itself.
-use Rattle.std.proofs.Common.{◌≡◌, ℕ, ◌%◌, Bool, true, false, cond, not, ◌&&◌, eqb, ltb, List, [], ◌∷◌, replicate, Some, None, Option, sym, refl, ap, ◌∙◌, ⊎_elim, lit<}
+use Rattle.std.proofs.Common.{◌≡◌, ℕ, ◌%◌, Bool, true, false, cond, not, ◌&&◌, ltb, List, [], ◌∷◌, replicate, Some, None, Option, sym, refl, ap, ◌∙◌, lit<}
 use Rattle.std.specs.Str.{bytes_eq}
 use Rattle.std.proofs.Math.Bool.{and-true, and-false}
-use Rattle.std.proofs.lemmas.Bool.{cases_Bool, eqb-true, cond-false, false≢true, ne_eqb, not-true}
 use Rattle.std.proofs.lemmas.Slice.Eq.{bytes_eq-Decides}
 use Rattle.typeb.specs.declared.frames.Op.{Op}
 use Rattle.typeb.specs.declared.frames.Op.TheVariants.{Read, Write, Lock, CheckPassword, Deselect, Count}
@@ -15,7 +14,7 @@ use Rattle.tags.specs.Pages.{unlocked, locked_by, counter_in, counted_by}
 use Rattle.tags.specs.Pump.{PumpMeaning, pump_acts, pump_obeys, pump_reads, pump_writes, pump_checks, asks, passes, page_of, with_page}
 use Rattle.kinds.specs.Reacts.{Reaction, answered, unmoved, replies, says_at}
 use Rattle.tags.specs.Rules.{reading_of, writing_of, ever_read, read_now, by_write}
-use Rattle.kinds.specs.Says.{Page, Acknowledged, Refused, Says}
+use Rattle.kinds.specs.Says.{Page, Acknowledged, Refused}
 use Rattle.tags.proofs.Asked.{after_read, after_write, after_lock, after_count, asked_yes, asked_on}
 use Rattle.tags.proofs.Commands.{data_obeyed, pages_lie, read_open}
 use Rattle.tags.proofs.Makings.{pump_making}

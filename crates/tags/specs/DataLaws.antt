@@ -7,9 +7,8 @@ use Rattle.typeb.specs.declared.frames.Op.TheVariants.{Read, Write, Lock, CheckP
 use Rattle.kinds.specs.Kinds.{Meaning}
 use Rattle.kinds.specs.Reacts.{Reaction}
 use Rattle.kinds.specs.Says.{Page, Acknowledged, Refused}
-use Rattle.tags.specs.Common.{Shown, reacts_by}
+use Rattle.tags.specs.Common.{Shown}
 use Rattle.tags.specs.Pump.{PumpMeaning, PumpSized, pump_obeys, page_of}
-use Rattle.tags.specs.declared.link.State.TheVariants.{Active}
 use Rattle.tags.specs.Pages.{lock_bit, counter_in}
 
 -- The memory of a pump tag, in order: page p is bytes 8 p to 8 p + 7.
