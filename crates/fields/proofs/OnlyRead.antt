@@ -106,7 +106,7 @@ number_text (a ∷ b ∷ c ∷ d ∷ rest) n e =
 pub number_only_read : NumberOnlyRead
 number_only_read = record { below = λ field n e. (number_text field n e).below; text = λ field n e. (number_text field n e).text }
 
-bytes_case : (b : Bool) (field bytes : List ℕ) → cond b (ok_or (hex_bytes field) fault.Bytes) (Err fault.Bytes) ≡ Ok bytes → hex_bytes field ≡ Some bytes
+pub bytes_case : (b : Bool) (field bytes : List ℕ) → cond b (ok_or (hex_bytes field) fault.Bytes) (Err fault.Bytes) ≡ Ok bytes → hex_bytes field ≡ Some bytes
 bytes_case true field bytes e = some_of _ _ bytes e
 bytes_case false field bytes e = absurd cc
 
@@ -131,10 +131,10 @@ word_bytes (Some x) (Some y) field draw e p q w =
 word_bytes (Some x) None field draw e p q w = absurd cc
 word_bytes None l field draw e p q w = absurd cc
 
-digit_below : (c v : ℕ) → digit_value c ≡ Some v → v < 16
+pub digit_below : (c v : ℕ) → digit_value c ≡ Some v → v < 16
 digit_below c v e = grind (arith, nat_tests)
 
-byte_below : (x y : Option ℕ) (v : ℕ) → ((k : ℕ) → x ≡ Some k → k < 16) → ((k : ℕ) → y ≡ Some k → k < 16) → byte_of x y ≡ Some v → v < 256
+pub byte_below : (x y : Option ℕ) (v : ℕ) → ((k : ℕ) → x ≡ Some k → k < 16) → ((k : ℕ) → y ≡ Some k → k < 16) → byte_of x y ≡ Some v → v < 256
 byte_below (Some a) (Some b) v p q e =
     let value : a * 16 + b ≡ v = cc in
     let small : a < 16 = p a refl in

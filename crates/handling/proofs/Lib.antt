@@ -5,4 +5,4 @@ pub mod Places
 pub mod Keeping
 pub mod Unchecked
 pub mod Lawful
-pub mod Worked
+pub mod Own

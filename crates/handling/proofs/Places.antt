@@ -3,7 +3,7 @@
 use Rattle.std.proofs.Common.{◌≡◌, ℕ, Bool, true, false, cond, not, ◌&&◌, ◌||◌, eqb, List, None, refl, ◌∙◌}
 use Rattle.tags.specs.Common.{is_off_tag}
 use Rattle.tags.specs.Pump.{PumpMeaning, pump_acts}
-use Rattle.tags.proofs.Conducts.{has_power}
+use Rattle.tags.proofs.LinkStates.{has_power}
 use Rattle.tags.proofs.Moves.{Good, Moves}
 use Rattle.tags.proofs.Staying.{keeps_power}
 use Rattle.tray_core.specs.Step.{Asks, On, Off, Place, Lift, Frame, Stock}

@@ -3,3 +3,7 @@ pub mod Ran
 pub mod Playing
 pub mod Worked
 pub mod Loading
+pub mod TagLines
+pub mod CallWords
+pub mod SheetLines
+pub mod FieldForms

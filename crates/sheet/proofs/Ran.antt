@@ -19,7 +19,7 @@ use Rattle.parts.proofs.Cuts.{parts_some}
 abbrev pub onward : ℕ → List (List ℕ) → Stage → Run
 onward number lines after = lines_run (number + 1) after lines
 
-step : (number : ℕ) (stage : Stage) (line : List ℕ) (lines : List (List ℕ)) → 0 < length lines
+pub step : (number : ℕ) (stage : Stage) (line : List ℕ) (lines : List (List ℕ)) → 0 < length lines
     → lines_run number stage (line ∷ lines) ≡ cond (leb (length line) 79) (go_on number (line_does number line stage) (onward number lines)) (stopped_at number 13)
 step number stage line [] h = absurd (omega arith)
 step number stage line (next ∷ more) h = refl

@@ -1,9 +1,13 @@
 pub mod Faults
 pub mod Lines
+pub mod CallWords
+pub mod FieldForms
 pub mod Printing
 pub mod Drafts
 pub mod Sheets
 pub mod Views
 pub mod Played
+pub mod TagLines
+pub mod SheetLines
 pub mod Cuts
 pub mod Worked

@@ -1,8 +1,9 @@
 // What a line says, and how it is read.
 ghost use Rattle.std.specs.Prelude.{◌≡◌, ◌≤◌, length};
 ghost use Rattle.parts.specs.Parts.{given};
+ghost use Rattle.sheet.specs.CallWords.{CallWords};
+ghost use Rattle.sheet.specs.FieldForms.{FieldForms};
 ghost use Rattle.sheet.specs.Lines.{line_says, said_in, word_says};
-ghost use Rattle.sheet.specs.Worked.{LinesWorked};
 ghost use Rattle.typeb.specs.CheckBytes.{sealed};
 ghost use Rattle.typeb.specs.Messages.{bytes_of};
 
@@ -68,11 +69,13 @@ fn read_fields(word: Word, fields: [Option<&[u8]>; 4]) -> Result<Line, LineFault
 }
 
 // What a line says: a known word, as many fields as it has, and each field in its form.
-// A table of lines, worked out by hand, agrees: clause `worked`.
-#[tactic(auto, using(crate::proofs::Worked::lines_worked))]
+// Which text is which call, tag or page, and which word is none: clause `words`. Which field's fault
+// a line has: clause `forms`.
+#[tactic(auto, using(crate::proofs::CallWords::call_words, crate::proofs::FieldForms::field_forms))]
 pub fn read_line(line: &[u8]) -> Result<Line, LineFault>
     ensures result { said_in result ≡ line_says line.now }
-    ensures worked { LinesWorked }
+    ensures words { CallWords line.now result }
+    ensures forms { FieldForms line.now result }
 {
     let (first, behind) = split_fields(line);
     let word = Word::try_from(first)?;

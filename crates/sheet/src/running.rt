@@ -2,12 +2,13 @@
 ghost use Rattle.std.specs.Prelude.{◌≡◌, [], IfOk, MatchOption, string_bytes};
 ghost use Rattle.sheet.specs.Cuts.{IsEnded, IsUnended};
 ghost use Rattle.parts.specs.Parts.{parted};
+ghost use Rattle.sheet.specs.SheetLines.{LinesDo, SheetLines};
 ghost use Rattle.sheet.specs.Sheets.{Naming, before, refused_at, lines_run, run_of};
 ghost use Rattle.sheet.specs.Sheets.{printed_of, refusal_of};
 ghost use Rattle.sheet.specs.Played.{SheetPlays};
+ghost use Rattle.sheet.specs.TagLines.{TagLines};
 ghost use Rattle.sheet.specs.Views.{refused_by, refused_in, run_by, RanBy};
 ghost use Rattle.sheet.specs.Worked.{WorkedSheets};
-ghost use Rattle.handling.specs.Worked.{WorkedStocks};
 
 use crate::faults::LineFault;
 use crate::naming::Named;
@@ -80,15 +81,18 @@ fn refuse(mut text: String, fault: SheetFault) -> Result<Ran, AllocError>
 // Runs a sheet: the text that it prints, the line of a refusal included, and why it was refused, if
 // it was. Want of memory is the only error. The text is that of the sheet's calls, put one after
 // another, up to the first refusal, to a loaded tray as the law over every run means it: clause
-// `calls`. Sheets worked out by hand print what was worked out: clause `worked`; stocks worked out by
-// hand answer and list it: clause `stocks`.
-#[tactic(auto, using(crate::proofs::Playing::sheet_plays, crate::proofs::Worked::worked_sheets, handling::proofs::Worked::worked_stocks))]
+// `calls`. Which lines a sheet runs, in which order, and where its run ends: clause `lines`; what
+// each does: clause `each_line`; what tag and page lines change: clause `tags`. Sheets worked out by
+// hand print what was worked out: clause `worked`.
+#[tactic(auto, using(crate::proofs::Playing::sheet_plays, crate::proofs::SheetLines::sheet_lines, crate::proofs::SheetLines::lines_do, crate::proofs::TagLines::tag_lines, crate::proofs::Worked::worked_sheets))]
 pub fn run_sheet(heap: Global, sheet: &[u8]) -> Result<Ran, AllocError>
     ensures printed { IfOk result (λ ran. string_bytes ran.text ≡ printed_of sheet.now) }
     ensures refused { IfOk result (λ ran. refused_in ran.fault ≡ refusal_of sheet.now) }
     ensures calls { SheetPlays sheet.now }
+    ensures lines { SheetLines }
+    ensures each_line { LinesDo }
+    ensures tags { TagLines }
     ensures worked { WorkedSheets }
-    ensures stocks { WorkedStocks }
 {
     let mut text = String::new(heap);
     match run_whole(heap, sheet, &mut text) {

@@ -1,15 +1,27 @@
 -- What holds of a pump tag after the questions of a data command.
-use Rattle.std.proofs.Common.{ℕ, Bool, true, false, ltb, List}
+use Rattle.std.proofs.Common.{◌≡◌, ℕ, Bool, true, false, ltb, List, Some, refl, ap, arith}
 use Rattle.tags.specs.Pages.{unlocked, locked_by, counter_in, counted_by}
 use Rattle.tags.specs.Pump.{PumpMeaning, asks, page_of, with_page, pump_reads, pump_writes, pump_locks, pump_counts}
 use Rattle.kinds.specs.Reacts.{Reaction, replies}
 use Rattle.tags.specs.Rules.{reading_of, writing_of, ever_read, read_now, by_write}
-use Rattle.kinds.specs.Says.{Page, Acknowledged}
+use Rattle.kinds.specs.Says.{Page, Acknowledged, Refused}
 
 -- after a question the tag is as it was, or as what follows leaves it
 pub asks_either : (P : PumpMeaning → Type 0) (test : Bool) (code : ℕ) (m : PumpMeaning) (go : Reaction PumpMeaning) → P m → P go.after → P (asks test code m go).after
 asks_either P true code m go stays goes = goes
 asks_either P false code m go stays goes = stays
+
+-- a question whose answer was yes, since the command was acknowledged
+pub asked_yes : (test : Bool) (code : ℕ) (m : PumpMeaning) (go : Reaction PumpMeaning) → (asks test code m go).says ≡ Some Acknowledged → test ≡ true
+asked_yes true code m go said = refl
+asked_yes false code m go said = let z : ◌≡◌ {A = ℕ} 0 1 = cc in absurd (omega arith)
+
+-- a question answered by yes, and by no
+pub asked_on : (test : Bool) (code : ℕ) (m : PumpMeaning) (go : Reaction PumpMeaning) → test ≡ true → asks test code m go ≡ go
+asked_on test code m go is = ap (λ (b : Bool). asks b code m go) is
+
+pub asked_off : (test : Bool) (code : ℕ) (m : PumpMeaning) (go : Reaction PumpMeaning) → test ≡ false → asks test code m go ≡ replies m (Refused code)
+asked_off test code m go is = ap (λ (b : Bool). asks b code m go) is
 
 -- so what holds of a tag, and of it with another page, holds after every command that is no check and no DESELECT
 module _ (P : PumpMeaning → Type 0) (m : PumpMeaning) (stays : P m) (paged : (page : ℕ) (bytes : List ℕ) → P (with_page page bytes m)) where

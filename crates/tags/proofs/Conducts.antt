@@ -1,25 +1,23 @@
 -- How a pump tag conducts itself.
-use Rattle.std.proofs.Common.{◌≡◌, ℕ, ◌%◌, Bool, true, false, cond, not, ◌&&◌, eqb, ltb, List, [], ◌∷◌, replicate, Some, None, Option, sym, refl, ap, ◌∙◌, ⊎_elim, arith, lit<}
+use Rattle.std.proofs.Common.{◌≡◌, ℕ, ◌%◌, Bool, true, false, cond, not, ◌&&◌, ltb, List, [], ◌∷◌, replicate, Some, None, Option, sym, refl, ap, ◌∙◌, lit<}
 use Rattle.std.specs.Str.{bytes_eq}
 use Rattle.std.proofs.Math.Bool.{and-true, and-false}
-use Rattle.std.proofs.lemmas.Bool.{cases_Bool, false≢true, eqb-true, eq-eqb, not-true, and_parts}
 use Rattle.std.proofs.lemmas.Slice.Eq.{bytes_eq-Decides}
 use Rattle.typeb.specs.declared.frames.Op.{Op}
 use Rattle.typeb.specs.declared.frames.Op.TheVariants.{Read, Write, Lock, CheckPassword, Deselect, Count}
 use Rattle.typeb.specs.CheckBytes.{fold_bit, fold_bits, fold_byte, check_bytes, sound}
 use Rattle.typeb.specs.Hears.{Heard, Request, SlotMarker, Attrib, Halt, Command, heard}
-use Rattle.tags.specs.declared.link.State.{State}
-use Rattle.tags.specs.declared.link.State.TheVariants.{Off, Idle, Requested, Declared, Halted, Active}
 use Rattle.tags.specs.Common.{reacts_by, with_opened}
-use Rattle.tags.specs.Conduct.{Conduct, Writes, Openness, Accepting, PasswordWanted, LinkStays, ReadsBack, PasswordCounts, Conversation, checking_op, is_check, acknowledges, speaks, checks_now, noted, verdicts_of, last_of}
-use Rattle.tags.specs.Links.{is_off, powered, answers_to}
+use Rattle.tags.specs.Conduct.{Conduct, Openness, Accepting, LinkStays, ReadsBack, PasswordCounts, Conversation, checking_op, is_check, acknowledges, speaks, checks_now, noted, verdicts_of, last_of}
+use Rattle.tags.specs.Links.{answers_to}
 use Rattle.tags.specs.Pages.{unlocked, locked_by, counter_in, counted_by}
 use Rattle.tags.specs.Pump.{PumpMeaning, pump_acts, pump_obeys, pump_reads, pump_writes, pump_checks, asks, passes, page_of, with_page}
 use Rattle.kinds.specs.Reacts.{Reaction, answered, unmoved, replies, says_at}
 use Rattle.tags.specs.Rules.{reading_of, writing_of, ever_read, read_now, by_write}
 use Rattle.kinds.specs.Says.{Page, Acknowledged, Refused}
-use Rattle.tags.specs.Tables.{RefusalTable, MakingTable}
-use Rattle.tags.proofs.Asked.{after_read, after_write, after_lock, after_count}
+use Rattle.tags.proofs.Asked.{after_read, after_write, after_lock, after_count, asked_yes, asked_on}
+use Rattle.tags.proofs.Commands.{data_obeyed, pages_lie, read_open}
+use Rattle.tags.proofs.Makings.{pump_making}
 use Rattle.tags.proofs.Replaced.{replaced_here}
 use Rattle.tags.proofs.Staying.{keeps_power}
 use Rattle.tags.proofs.LinkLawful.{link_laws}
@@ -122,44 +120,6 @@ step_accepts None m = refl
 accepting : Accepting
 accepting frame m = step_accepts (heard frame) m
 
--- a tag that has gained power has it
-pub has_power : (s : State) → is_off (powered s) ≡ false
-has_power Off = refl
-has_power Idle = refl
-has_power (Requested slot) = refl
-has_power Declared = refl
-has_power Halted = refl
-has_power Active = refl
-
--- a question whose answer was yes, since the command was acknowledged
-asked_yes : (test : Bool) (code : ℕ) (m : PumpMeaning) (go : Reaction PumpMeaning) → (asks test code m go).says ≡ Some Acknowledged → test ≡ true
-asked_yes true code m go said = refl
-asked_yes false code m go said = let z : ◌≡◌ {A = ℕ} 0 1 = cc in absurd (omega arith)
-
-asked_on : (test : Bool) (code : ℕ) (m : PumpMeaning) (go : Reaction PumpMeaning) → test ≡ true → asks test code m go ≡ go
-asked_on test code m go is = ap (λ (b : Bool). asks b code m go) is
-
--- every page but 0 and 2 can be written
-writable_page : (page : ℕ) → (page ≡ 0 → ⊥) → (page ≡ 2 → ⊥) → by_write (writing_of page) ≡ true
-writable_page page not-0 not-2 =
-    ⊎_elim
-    (λ (e : eqb page 0 ≡ true). absurd (not-0 (eqb-true page 0 e)))
-    (λ (e : eqb page 0 ≡ false).
-    ⊎_elim
-    (λ (f : eqb page 2 ≡ true). absurd (not-2 (eqb-true page 2 f)))
-    (λ (f : eqb page 2 ≡ false). simp (e, f) refl)
-    (cases_Bool (eqb page 2)))
-    (cases_Bool (eqb page 0))
-
-writes : Writes
-writes page bytes m not-0 not-2 now clear =
-    let last : Reaction PumpMeaning = replies (with_page page bytes m) Acknowledged in
-    let inner : Reaction PumpMeaning = asks (unlocked page (page_of 0 m)) 0x11 m last in
-    ap (λ (r : Reaction PumpMeaning). r.says)
-    (asked_on m.opened 0x41 m (asks (by_write (writing_of page)) 0x21 m inner) now
-    ∙ asked_on (by_write (writing_of page)) 0x21 m inner (writable_page page not-0 not-2)
-    ∙ asked_on (unlocked page (page_of 0 m)) 0x11 m last (eq-eqb _ _ clear))
-
 -- an acknowledged WRITE has replaced its page, in an open tag
 module _ (page : ℕ) (bytes : List ℕ) (m : PumpMeaning) (said : (pump_writes page bytes m).says ≡ Some Acknowledged) where
   abbrev third : Reaction PumpMeaning
@@ -186,28 +146,10 @@ module _ (page : ℕ) (bytes : List ℕ) (m : PumpMeaning) (said : (pump_writes 
   replaced : (pump_writes page bytes m).after ≡ with_page page bytes m
   replaced = ap (λ (r : Reaction PumpMeaning). r.after) (to_third ∙ asked_on (unlocked page (page_of 0 m)) 0x11 m (replies (with_page page bytes m) Acknowledged) free)
 
--- every page but the password can be read of an open tag
-readable : (page : ℕ) → (page ≡ 3 → ⊥) → (ever_read (reading_of page) ≡ true) × (read_now (reading_of page) true ≡ true)
-readable page other =
-    ⊎_elim
-    (λ (t : ltb page 3 ≡ true). simp t (refl, refl))
-    (λ (t : ltb page 3 ≡ false).
-    ⊎_elim
-    (λ (e : eqb page 3 ≡ true). absurd (other (eqb-true page 3 e)))
-    (λ (e : eqb page 3 ≡ false). simp (t, e) (refl, refl))
-    (cases_Bool (eqb page 3)))
-    (cases_Bool (ltb page 3))
-
-read_open : (page : ℕ) (m : PumpMeaning) → (page ≡ 3 → ⊥) → m.opened ≡ true → (pump_reads page m).says ≡ Some (Page (page_of page m))
-read_open page m other open_now =
-    let can = readable page other in
-    let now : read_now (reading_of page) m.opened ≡ true = ap (read_now (reading_of page)) open_now ∙ can.1 in
-    ap (λ (r : Reaction PumpMeaning). r.says) (asked_on (ever_read (reading_of page)) 0x21 m _ can.0 ∙ asked_on (read_now (reading_of page) m.opened) 0x41 m _ now)
-
 reads_back : ReadsBack
 reads_back page bytes m sized below eight other said =
     ap (λ (n : PumpMeaning). (pump_reads page n).says) (replaced page bytes m said)
-    ∙ read_open page (with_page page bytes m) other (opened page bytes m said)
+    ∙ ap (λ (r : Reaction PumpMeaning). r.says) (read_open page (with_page page bytes m) other (opened page bytes m said))
     ∙ ap (λ (p : List ℕ). Some (Page p)) (replaced_here m sized page below bytes eight)
 
 accepted_by : (test : Bool) (m : PumpMeaning) → (cond test (passed m) (failed m)).accepted ≡ test
@@ -220,16 +162,6 @@ password_counts bytes m sized eight said =
     ∙ accepted_by (passes bytes (with_page 3 bytes m)) (with_page 3 bytes m)
     ∙ ap (λ (b : Bool). not (bytes_eq bytes (replicate 8 0xFF)) && b) (ap (bytes_eq bytes) (replaced_here m sized 3 (lit< tt) bytes eight) ∙ (bytes_eq-Decides bytes bytes).1 refl)
     ∙ and-true (not (bytes_eq bytes (replicate 8 0xFF)))
-
--- only the password on page 3 is accepted, and not all ones
-password_wanted : PasswordWanted
-password_wanted bytes m accepted =
-    let parts = and_parts (not (bytes_eq bytes (replicate 8 0xFF))) (bytes_eq bytes (page_of 3 m)) (sym (accepted_by (passes bytes m) m) ∙ accepted) in
-    record {
-      is = (bytes_eq-Decides bytes (page_of 3 m)).0 parts.1;
-      not_ones = λ (e : bytes ≡ replicate 8 0xFF).
-          false≢true (sym (not-true (bytes_eq bytes (replicate 8 0xFF)) parts.0) ∙ (bytes_eq-Decides bytes (replicate 8 0xFF)).1 e);
-    }
 
 -- what data commands do to state, card number and draw number
 abbrev SameLink : PumpMeaning → PumpMeaning → Type 0
@@ -247,24 +179,6 @@ link_stays CheckPassword page bytes m = check_stays (passes bytes m) m
 link_stays Deselect page bytes m = refl
 link_stays Count page bytes m = after_count (SameLink m) m refl (λ p b. refl) bytes
 
--- the worked tables
-refusals : RefusalTable
-refusals =
-    record {
-      read_closed = refl;
-      read_open = refl;
-      written_closed = refl;
-      written_open = refl;
-      locked_closed = refl;
-      locked_open = refl;
-      counted_closed = refl;
-      counted_locked = refl;
-      counted_out = refl;
-    }
-
-making : MakingTable
-making = record { pump = refl }
-
 conversation : Conversation
 unfolding fold_bit fold_bits fold_byte check_bytes sound heard
 conversation = refl
@@ -274,15 +188,14 @@ conduct =
     record {
       openness = openness;
       accepting = accepting;
-      password_wanted = password_wanted;
       link = link_laws pump_obeys;
       goes_by = pump_goes_by;
       link_stays = link_stays;
       frames = keeps_power;
-      writes = writes;
+      pages_lie = pages_lie;
+      data_obeyed = data_obeyed;
       reads_back = reads_back;
       password_counts = password_counts;
       conversation = conversation;
-      refusals = refusals;
-      making = making;
+      making = pump_making;
     }

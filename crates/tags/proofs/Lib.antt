@@ -10,5 +10,9 @@ pub mod Staying
 pub mod LinkStates
 pub mod LinkLawful
 pub mod GoingBy
+pub mod Bytes
+pub mod LockBits
+pub mod Commands
+pub mod Makings
 pub mod Conducts
 pub mod GaugeConducts

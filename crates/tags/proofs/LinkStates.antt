@@ -8,7 +8,7 @@ use Rattle.tags.specs.declared.link.Link.{Link}
 use Rattle.tags.specs.declared.link.State.{State}
 use Rattle.tags.specs.declared.link.State.TheVariants.{Off, Idle, Requested, Declared, Halted, Active}
 use Rattle.kinds.specs.Says.{Says}
-use Rattle.tags.specs.Links.{hears_marker, dismissed, listens, powered, is_declared, is_active}
+use Rattle.tags.specs.Links.{hears_marker, dismissed, listens, powered, is_off, is_declared, is_active}
 use Rattle.tags.specs.Links as links
 use Rattle.tags.specs.LinkLaws.{passes_by, not_declared}
 
@@ -69,3 +69,12 @@ stays_on (Requested slot) h = refl
 stays_on Declared h = refl
 stays_on Halted h = refl
 stays_on Active h = refl
+
+-- a tag that has gained power is not off
+pub has_power : (s : State) → is_off (powered s) ≡ false
+has_power Off = refl
+has_power Idle = refl
+has_power (Requested slot) = refl
+has_power Declared = refl
+has_power Halted = refl
+has_power Active = refl

@@ -10,13 +10,13 @@ use Rattle.tags.specs.declared.link.State.TheVariants.{Off, Halted}
 use Rattle.tags.specs.Common.{Shown, is_off_tag, reacts_by}
 use Rattle.tags.specs.Edges.{tag_in}
 use Rattle.kinds.specs.Kinds.{Meaning, Behaviour}
-use Rattle.tags.specs.Pages.{lock_bit}
-use Rattle.tags.specs.Pump.{PumpMeaning, PumpSized, page_of, pump_acts, pump_obeys, pump_reads, pump_writes, pump_checks}
+use Rattle.tags.specs.Pump.{PumpMeaning, PumpSized, pump_acts, pump_obeys, pump_reads, pump_writes, pump_checks}
 use Rattle.kinds.specs.Reacts.{Reaction, says_to}
 use Rattle.kinds.specs.Says.{Says, Answer, Card, Page, Acknowledged, Refused}
-use Rattle.tags.specs.Tables.{RefusalTable, MakingTable}
 use Rattle.tags.specs.LinkLaws.{LinkLaws}
 use Rattle.tags.specs.GoesBy.{GoesBy}
+use Rattle.tags.specs.DataLaws.{IsWhole, PagesLie, DataObeyed}
+use Rattle.tags.specs.MakingLaws.{PumpMaking}
 
 -- A tag that hears frames one after another: what it is then, and all that it answered.
 abbrev pub after_all : PumpMeaning → List (List ℕ) → PumpMeaning
@@ -68,7 +68,7 @@ last_of before (verdict ∷ more) = last_of verdict more
 abbrev pub Openness : Type 0
 Openness = (m : PumpMeaning) (frames : List (List ℕ)) → (after_all m frames).opened ≡ last_of m.opened (verdicts_of m frames)
 
--- A check is accepted exactly where CHECK PASSWORD is acknowledged; and what it brings then is page 3, and not all ones.
+-- A check is accepted exactly where CHECK PASSWORD is acknowledged.
 abbrev pub acknowledges : Option Says → Bool
 acknowledges (Some (Answer serial application protocol)) = false
 acknowledges (Some (Card cid)) = false
@@ -79,13 +79,6 @@ acknowledges None = false
 
 abbrev pub Accepting : Type 0
 Accepting = (frame : List ℕ) (m : PumpMeaning) → (pump_acts.hears frame m).accepted ≡ is_check (heard frame) && acknowledges (says_to (reacts_by pump_obeys) frame m)
-
-pub record PasswordGiven (bytes : List ℕ) (m : PumpMeaning) : Type 0 where
-  pub is : bytes ≡ page_of 3 m
-  pub not_ones : bytes ≢ replicate 8 0xFF
-
-abbrev pub PasswordWanted : Type 0
-PasswordWanted = (bytes : List ℕ) (m : PumpMeaning) → (pump_checks bytes m).accepted ≡ true → PasswordGiven bytes m
 
 -- DESELECT halts; no other data command changes the state, and none the card number or the draw number.
 abbrev pub halting : Op → State → State
@@ -104,12 +97,6 @@ LinkStays {H} obeys =
 -- No frame turns a tag on or off.
 abbrev pub FramesKeepPower : Type 0
 FramesKeepPower = (frame : List ℕ) (m : PumpMeaning) → is_off_tag (pump_acts.hears frame m).after.shown ≡ is_off_tag m.shown
-
--- An open tag takes WRITE for every page but 0 and 2, unless the page is locked.
-abbrev pub Writes : Type 0
-Writes =
-    (page : ℕ) (bytes : List ℕ) (m : PumpMeaning) → (page ≢ 0) → (page ≢ 2) → m.opened ≡ true → lock_bit page (page_of 0 m) ≡ 0
-    → (pump_writes page bytes m).says ≡ Some Acknowledged
 
 -- A page that is written is read back, and a password that is written is the one that opens, unless it is all ones.
 abbrev pub ReadsBack : Type 0
@@ -176,14 +163,13 @@ Conversation = answers_all pump_acts (pump_acts.gains (tag_in Off false (0x11 �
 pub record Conduct : Type 0 where
   pub openness : Openness
   pub accepting : Accepting
-  pub password_wanted : PasswordWanted
   pub link : LinkLaws pump_obeys
   pub goes_by : GoesBy pump_obeys
   pub link_stays : LinkStays pump_obeys
   pub frames : FramesKeepPower
-  pub writes : Writes
+  pub pages_lie : (m : PumpMeaning) → IsWhole m → PagesLie m
+  pub data_obeyed : DataObeyed
   pub reads_back : ReadsBack
   pub password_counts : PasswordCounts
   pub conversation : Conversation
-  pub refusals : RefusalTable
-  pub making : MakingTable
+  pub making : (image : List ℕ) (draw : ℕ) → PumpMaking image draw

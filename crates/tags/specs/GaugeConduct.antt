@@ -1,12 +1,17 @@
 -- How a gauge tag conducts itself: laws above the definitions, as Conduct.antt has of a pump tag.
-use Rattle.std.specs.Prelude.{◌≡◌, ℕ, false, List, [], ◌∷◌, ◌++◌, map, replicate, Ok, Err}
+use Rattle.std.specs.Prelude.{◌≡◌, ◌≢◌, ℕ, ◌*◌, ◌<◌, ◌≤◌, false, List, [], ◌∷◌, replicate, Some}
 use Rattle.typeb.specs.CheckBytes.{sealed}
+use Rattle.typeb.specs.declared.frames.Op.{Op}
+use Rattle.typeb.specs.declared.frames.Op.TheVariants.{Read, Deselect}
 use Rattle.tags.specs.declared.link.State.TheVariants.{Off}
 use Rattle.tags.specs.Conduct.{answers_all, LinkStays}
-use Rattle.tags.specs.Gauge.{GaugeMeaning, gauge_acts, gauge_obeys}
-use Rattle.tags.specs.Making.{gauge_made}
+use Rattle.tags.specs.Gauge.{GaugeMeaning, gauge_acts, gauge_obeys, GaugeSized}
 use Rattle.tags.specs.LinkLaws.{LinkLaws}
 use Rattle.tags.specs.GoesBy.{GoesBy}
+use Rattle.tags.specs.DataLaws.{Deselects, eight_from}
+use Rattle.tags.specs.MakingLaws.{GaugeMaking}
+use Rattle.kinds.specs.Reacts.{Reaction, unmoved}
+use Rattle.kinds.specs.Says.{Page, Refused}
 
 -- A gauge just made, of serial number 11223344, draw number 0xE123 and these bytes on its page 1.
 abbrev pub gauge_image : List ℕ
@@ -15,12 +20,20 @@ gauge_image = 0x11 ∷ 0x22 ∷ 0x33 ∷ 0x44 ∷ 0 ∷ 0 ∷ 0 ∷ 0 ∷ 0xA1 �
 abbrev pub gauge_new : GaugeMeaning
 gauge_new = record { shown = record { link = record { state = Off; cid = 0; draw = 0xE123 }; pages = gauge_image }; hidden = tt; opened = false }
 
--- Of 15 and of 17 bytes; with byte 4 or byte 7 not zero; that image.
-abbrev pub GaugesMade : Type 0
-GaugesMade =
-    map (λ image. gauge_made image 0xE123)
-    (replicate 15 9 ∷ replicate 17 0 ∷ (replicate 4 0 ++ (1 ∷ replicate 11 0)) ∷ (replicate 7 0 ++ (1 ∷ replicate 8 0)) ∷ gauge_image ∷ [])
-    ≡ Err 1 ∷ Err 1 ∷ Err 2 ∷ Err 2 ∷ Ok gauge_new ∷ []
+-- READ gives the eight bytes of pages 0 and 1, refuses every other page, and changes nothing.
+pub record GaugeReads (page : ℕ) (m : GaugeMeaning) (r : Reaction GaugeMeaning) : Type 0 where
+  pub given : page < 2 → r.says ≡ Some (Page (eight_from (8 * page) m.shown.pages))
+  pub refused : 2 ≤ page → r.says ≡ Some (Refused 0x21)
+  pub after : r.after ≡ m
+
+-- Each page of 32, and all data. Of the data commands but READ and DESELECT none is heard.
+pub record GaugeLaws (page : ℕ) (bytes : List ℕ) (m : GaugeMeaning) : Type 0 where
+  pub reads : GaugeReads page m (gauge_obeys Read page bytes m)
+  pub deselects : Deselects m (gauge_obeys Deselect page bytes m)
+  pub unheard : (op : Op) → (op ≢ Read) → (op ≢ Deselect) → gauge_obeys op page bytes m ≡ unmoved m
+
+abbrev pub GaugeObeyed : Type 0
+GaugeObeyed = (page : ℕ) (bytes : List ℕ) (m : GaugeMeaning) → GaugeSized m → GaugeLaws page bytes m
 
 -- No frame changes its pages, opens it, or is an accepted check.
 pub record GaugeKeeps (frame : List ℕ) (m : GaugeMeaning) : Type 0 where
@@ -77,7 +90,8 @@ gauge_replies =
 
 -- All of these.
 pub record GaugeConduct : Type 0 where
-  pub made : GaugesMade
+  pub making : (image : List ℕ) (draw : ℕ) → GaugeMaking image draw
+  pub data_obeyed : GaugeObeyed
   pub keeps : (frame : List ℕ) (m : GaugeMeaning) → GaugeKeeps frame m
   pub link : LinkLaws gauge_obeys
   pub goes_by : GoesBy gauge_obeys

@@ -8,9 +8,10 @@ pub mod Pump
 pub mod Gauge
 pub mod Making
 pub mod Edges
-pub mod Tables
 pub mod LinkLaws
 pub mod GoesBy
+pub mod DataLaws
+pub mod MakingLaws
 pub mod Conduct
 pub mod GaugeConduct
 pub mod Judging

@@ -1,5 +1,5 @@
 -- Making a tag from an image: the questions in their order, each with its refusal's number, and the tag just made.
-use Rattle.std.specs.Prelude.{◌≡◌, ℕ, false, List, length, take, drop, replicate, Ok, Err, Result, ◌==◌, nat_le}
+use Rattle.std.specs.Prelude.{◌≡◌, ℕ, false, List, length, take, drop, replicate, Ok, Result, ◌==◌, nat_le}
 use Rattle.std.specs.Str.{bytes_eq}
 use Rattle.refusals.specs.Numbers.{asked}
 use Rattle.tags.specs.Links.{new_link}

@@ -9,4 +9,12 @@ pub mod Rounds
 pub mod Stocked
 pub mod Tallies
 pub mod Places
+pub mod Replied
+pub mod Listing
+pub mod Framed
+pub mod Determined
+pub mod Answering
+pub mod Counting
+pub mod Courses
+pub mod Stocktaking
 pub mod Stepping

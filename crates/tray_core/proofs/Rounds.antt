@@ -30,7 +30,7 @@ module _ {SF HF SB HB : Type 0} (F : Behaviour SF HF) (B : Behaviour SB HB) wher
   pub same_end : {r s q : Script Tally} {t u v : Model SF HF SB HB} → SameEnd F B r t s u → SameEnd F B s u q v → SameEnd F B r t q v
   same_end p q = record { result = p.result ∙ q.result; tray = p.tray ∙ q.tray }
 
-  from_path : {r s : Script Tally} (t : Model SF HF SB HB) → r ≡ s → SameEnd F B r t s t
+  pub from_path : {r s : Script Tally} (t : Model SF HF SB HB) → r ≡ s → SameEnd F B r t s t
   from_path t e = record { result = ap (λ x. played F B x t) e; tray = ap (λ x. after_play F B x t) e }
 
   pub one_slot : (frames : List (List ℕ)) (frame : List ℕ) (i : ℕ) (next : Tally → Script Tally) (c d e : Tally) (t u v : Model SF HF SB HB) → i < length frames → frame ≡ get_or frames i []

@@ -1,33 +1,17 @@
 -- The laws of one call: what refuses it, what is heard, and what it makes of every tag.
-use Rattle.std.proofs.Common.{◌≡◌, ℕ, suc, ◌+◌, ◌-◌, ◌≤◌, inl, inr, ⊎_elim, Bool, true, false, cond, leb, List, [], ◌∷◌, ◌++◌, length, Some, None, Ok, Err, Option, Result, slice_get, sym, refl, ap, ◌∙◌, arith}
+use Rattle.std.proofs.Common.{◌≡◌, ℕ, suc, ◌+◌, ◌-◌, ◌≤◌, inl, inr, ⊎_elim, Bool, true, false, cond, leb, List, [], ◌∷◌, length, Some, None, Ok, Err, Option, Result, slice_get, sym, refl, ap, subst, ◌∙◌, arith}
 use Rattle.std.proofs.lemmas.Bool.{and_parts, le-leb, leb-true, lt-leb, or_cases, or_left, or_right}
 use Rattle.kinds.specs.Kinds.{Behaviour}
 use Rattle.tray_core.specs.declared.calls.Answer.{Answer}
-use Rattle.tray_core.specs.Rows.{Post, row_sounds}
-use Rattle.tray_core.specs.Sounds.{Sounds, Silence, Reply, meet, voice, audible, count_replies}
+use Rattle.tray_core.specs.Course.{Stocktakes}
+use Rattle.tray_core.specs.Sounds.{Sounds, count_replies}
 use Rattle.tray_core.specs.Step.{Asks, On, Off, Place, Lift, Frame, Stock, Outcome, heard_answer, heard_buffer, own_question, refused_by, unless_refused, step}
-use Rattle.tray_core.specs.Steps.{Steps, replies_in, replies, Fit, Named}
+use Rattle.tray_core.specs.Replies.{replies}
+use Rattle.tray_core.specs.Steps.{Steps, Fit, Named}
 use Rattle.tray_core.specs.Trays.{Model, rows_fit, in_front, in_back, names, sounds_of}
-use Rattle.tray_core.proofs.Meets.{grouping, one_more}
 use Rattle.tray_core.proofs.Places.{front_rowed, back_rowed, done_at, field_done}
-
--- the replies of a row, by their number
-module _ {S H : Type 0} (b : Behaviour S H) where
-  spoken : (here : Bool) (reply : List ℕ) (s : Sounds) (more : List (List ℕ)) → s ≡ count_replies (audible more)
-      → meet (cond here (voice reply) Silence) s ≡ count_replies (audible (cond here (reply ∷ more) more))
-  spoken false reply s more rest = rest
-  spoken true [] s more rest = rest
-  spoken true (x ∷ bytes) s more rest = ap (meet (Reply (x ∷ bytes))) rest ∙ one_more (x ∷ bytes) (audible more)
-
-  row_speaks : (frame : List ℕ) (row : List (Post S H)) → row_sounds b frame row ≡ count_replies (audible (replies_in b frame row))
-  row_speaks frame [] = refl
-  row_speaks frame (p ∷ row) = spoken p.here (b.hears frame p.tag).reply (row_sounds b frame row) (replies_in b frame row) (row_speaks frame row)
-
-both_rows : (xs ys : List (List ℕ)) → meet (count_replies xs) (count_replies ys) ≡ count_replies (xs ++ ys)
-both_rows [] ys = refl
-both_rows (a ∷ xs) ys =
-    ap (λ (s : Sounds). meet s (count_replies ys)) (sym (one_more a xs)) ∙ grouping (Reply a) (count_replies xs) (count_replies ys)
-    ∙ ap (meet (Reply a)) (both_rows xs ys) ∙ one_more a (xs ++ ys)
+use Rattle.tray_core.proofs.Replied.{sounds_are}
+use Rattle.tray_core.proofs.Stocktaking.{stock_taken}
 
 is_false : (x : Bool) → (x ≡ true → ⊥) → x ≡ false
 is_false true never = absurd (never refl)
@@ -107,20 +91,10 @@ module _ {SF HF SB HB : Type 0} (F : Behaviour SF HF) (B : Behaviour SB HB) (t :
   list_by None (Frame frame) other = refl
   list_by None Stock other = absurd (other refl)
 
-  -- what is heard
-  heard_so : (field : Bool) (frame : List ℕ)
-      → cond field (meet (row_sounds F frame t.front) (row_sounds B frame t.back)) Silence
-      ≡ count_replies (cond field (audible (replies_in F frame t.front) ++ audible (replies_in B frame t.back)) [])
-  heard_so true frame =
-      ap (λ (s : Sounds). meet s (row_sounds B frame t.back)) (row_speaks F frame t.front)
-      ∙ ap (meet (count_replies (audible (replies_in F frame t.front)))) (row_speaks B frame t.back)
-      ∙ both_rows (audible (replies_in F frame t.front)) (audible (replies_in B frame t.back))
-  heard_so false frame = refl
-
   -- answer and buffer of Frame, by the replies
-  module _ (fit : Fit F B t buffer list) (room : 16 ≤ length buffer) (frame : List ℕ) (all : List (List ℕ)) (are : replies F B t buffer list frame ≡ all) where
+  module _ (fit : Fit F B t buffer list) (room : 16 ≤ length buffer) (frame : List ℕ) (all : List (List ℕ)) (are : replies F B t frame ≡ all) where
     is : sounds_of F B frame t ≡ count_replies all
-    is = heard_so t.field frame ∙ ap count_replies are
+    is = sounds_are F B t frame all are
 
     aired : step F B (Frame frame) t buffer list ≡ by None (Frame frame)
     aired = asked_own fit (Frame frame) None (ap (λ (x : Bool). cond {A = Option ℕ} x None (Some 6)) (le-leb 16 (length buffer) room))
@@ -164,4 +138,8 @@ module _ {SF HF SB HB : Type 0} (F : Behaviour SF HF) (B : Behaviour SB HB) (t :
             ap (λ (o : Option ℕ). slice_get (by o c).tray.back i) none ∙ done_at F B B (λ m. m.back) (λ n. 32 + n) (back_rowed F B) c t buffer list none other i;
         buffer_kept = λ c. buffer_by (refused_by c t buffer list) c;
         list_kept = λ c. list_by (refused_by c t buffer list) c;
+        stock = λ fit room.
+            subst (Stocktakes F B t list)
+            (sym (asked_own fit Stock None (ap (λ (x : Bool). cond {A = Option ℕ} x None (Some 7)) (le-leb 128 (length list) room))))
+            (stock_taken F B t buffer list fit);
       }

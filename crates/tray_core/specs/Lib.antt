@@ -4,8 +4,10 @@ pub mod Trays
 pub mod Scripts
 pub mod Stock
 pub mod Step
-pub mod Steps
+pub mod Replies
 pub mod Runs
+pub mod Course
+pub mod Steps
 pub mod Hiding
 pub mod Views
 pub mod Lending

@@ -4,8 +4,9 @@ use Rattle.std.specs.Option.{option_map}
 use Rattle.kinds.specs.Kinds.{Behaviour}
 use Rattle.tray_core.specs.declared.calls.Answer.{Answer}
 use Rattle.tray_core.specs.declared.calls.Answer.TheVariants as answer
+use Rattle.tray_core.specs.Course.{Stocktakes}
+use Rattle.tray_core.specs.Replies.{replies}
 use Rattle.tray_core.specs.Rows.{Post}
-use Rattle.tray_core.specs.Sounds.{audible}
 use Rattle.tray_core.specs.Step.{Asks, On, Off, Place, Lift, Frame, Stock, Outcome, step}
 use Rattle.tray_core.specs.Trays.{Model}
 
@@ -20,11 +21,6 @@ module _ {S H : Type 0} (b : Behaviour S H) where
   befalls (Frame frame) field n p = record { here = p.here; tag = cond (p.here && field) (b.hears frame p.tag).after p.tag }
   befalls Stock field n p = p
 
-  -- The replies of a row's tags that are on the tray.
-  abbrev pub replies_in : List ℕ → List (Post S H) → List (List ℕ)
-  replies_in frame [] = []
-  replies_in frame (p ∷ row) = cond p.here ((b.hears frame p.tag).reply ∷ replies_in frame row) (replies_in frame row)
-
 -- The field after a call.
 abbrev pub lit_by : Asks → Bool → Bool
 lit_by On field = true
@@ -37,10 +33,6 @@ lit_by Stock field = field
 module _ {SF HF SB HB : Type 0} (F : Behaviour SF HF) (B : Behaviour SB HB) (t : Model SF HF SB HB) (buffer : List ℕ) (list : List (List ℕ)) where
   abbrev pub comes : Asks → Outcome (Model SF HF SB HB)
   comes c = step F B c t buffer list
-
-  -- The replies, of one byte or more, of the tags that have power.
-  abbrev pub replies : List ℕ → List (List ℕ)
-  replies frame = cond t.field (audible (replies_in F frame t.front) ++ audible (replies_in B frame t.back)) []
 
   -- Rows of 32 or fewer. Front tags are numbered from 0, back tags from 32.
   abbrev pub Fit : Type 0
@@ -62,9 +54,9 @@ module _ {SF HF SB HB : Type 0} (F : Behaviour SF HF) (B : Behaviour SB HB) (t :
     pub short_buffer : Fit → (frame : List ℕ) → length buffer < 16 → (comes (Frame frame)).answer ≡ Err 6
     pub short_list : Fit → length list < 128 → (comes Stock).answer ≡ Err 7
     -- Frame: silence, one reply in front of the buffer, or a clash, by the replies of the tags that have power.
-    pub silence : Fit → 16 ≤ length buffer → (frame : List ℕ) → replies frame ≡ [] → ((comes (Frame frame)).answer ≡ Ok answer.Silent) × ((comes (Frame frame)).buffer ≡ buffer)
-    pub reply : Fit → 16 ≤ length buffer → (frame a : List ℕ) → replies frame ≡ a ∷ [] → ((comes (Frame frame)).answer ≡ Ok (answer.Reply (length a))) × ((comes (Frame frame)).buffer ≡ a ++ drop (length a) buffer)
-    pub clash : Fit → 16 ≤ length buffer → (frame a b : List ℕ) (more : List (List ℕ)) → replies frame ≡ a ∷ (b ∷ more) → ((comes (Frame frame)).answer ≡ Ok (answer.Clash (length more + 2))) × ((comes (Frame frame)).buffer ≡ buffer)
+    pub silence : Fit → 16 ≤ length buffer → (frame : List ℕ) → replies F B t frame ≡ [] → ((comes (Frame frame)).answer ≡ Ok answer.Silent) × ((comes (Frame frame)).buffer ≡ buffer)
+    pub reply : Fit → 16 ≤ length buffer → (frame a : List ℕ) → replies F B t frame ≡ a ∷ [] → ((comes (Frame frame)).answer ≡ Ok (answer.Reply (length a))) × ((comes (Frame frame)).buffer ≡ a ++ drop (length a) buffer)
+    pub clash : Fit → 16 ≤ length buffer → (frame a b : List ℕ) (more : List (List ℕ)) → replies F B t frame ≡ a ∷ (b ∷ more) → ((comes (Frame frame)).answer ≡ Ok (answer.Clash (length more + 2))) × ((comes (Frame frame)).buffer ≡ buffer)
     -- What a call makes of the field and of every tag.
     pub field : (c : Asks) (a : Answer) → (c ≢ Stock) → (comes c).answer ≡ Ok a → (comes c).tray.field ≡ lit_by c t.field
     pub front : (c : Asks) (a : Answer) → (c ≢ Stock) → (comes c).answer ≡ Ok a → (n : ℕ) → slice_get (comes c).tray.front n ≡ option_map (befalls F c t.field n) (slice_get t.front n)
@@ -72,3 +64,5 @@ module _ {SF HF SB HB : Type 0} (F : Behaviour SF HF) (B : Behaviour SB HB) (t :
     -- Only Frame writes into the buffer, and only Stock into the list.
     pub buffer_kept : (c : Asks) → ((frame : List ℕ) → c ≢ Frame frame) → (comes c).buffer ≡ buffer
     pub list_kept : (c : Asks) → (c ≢ Stock) → (comes c).list ≡ list
+    -- Stock takes its course.
+    pub stock : Fit → 128 ≤ length list → Stocktakes F B t list (comes Stock)

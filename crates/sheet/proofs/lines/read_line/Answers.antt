@@ -5,6 +5,8 @@ use Rattle.sheet.specs.declared.faults.LineFault.{LineFault}
 use Rattle.sheet.specs.declared.words.Word.{Word}
 use Rattle.sheet.specs.declared.words.Word.TheVariants.{Tag, Page, On, Off, Place, Lift, Stock, Send, Raw}
 use Rattle.sheet.specs.Lines.{behind_say, fields_say, word_of}
+use Rattle.sheet.proofs.CallWords.{call_words}
+use Rattle.sheet.proofs.FieldForms.{field_forms}
 use Rattle.sheet.proofs.lines.read_line.Goals as goal
 
 -- no word has four fields behind it
@@ -41,3 +43,9 @@ returns-clause-result c =
     ∙ ap (λ (o : Option Word). behind_say o behind) (sym (known (word_of first) c.in_ok-word.word _ c.in_ok-word.ensures))
     ∙ ap fields_say c.split_fields.ensures.result
     ∙ first_say (parted 44 c.args.line.now)
+
+pub returns-clause-words : goal.returns-clause-words
+returns-clause-words c = call_words c.args.line.now c.read_fields.result (returns-clause-result c)
+
+pub returns-clause-forms : goal.returns-clause-forms
+returns-clause-forms c = field_forms c.args.line.now c.read_fields.result (returns-clause-result c)

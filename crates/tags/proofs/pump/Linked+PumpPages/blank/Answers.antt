@@ -1,5 +1,4 @@
-use Rattle.std.proofs.Common.{replicate, ap, ◌∙◌, sym, refl, Ok}
-use Rattle.tags.specs.Making.{new_pump}
+use Rattle.std.proofs.Common.{replicate, ap, sym, Ok}
 use Rattle.tags.proofs.pump.Linked+PumpPages.blank.Goals as goal
 
 pub returns-clause-made : goal.returns-clause-made
