@@ -29,7 +29,7 @@ pub fn handle<F: Kind, B: Kind>(
     ensures result { Stepped (step F.Kind.acts B.Kind.acts (asks_of call.entry) (model_of F.Kind.means B.Kind.means tray.old) buffer.old list.old) result (model_of F.Kind.means B.Kind.means tray.new) buffer.new list.new }
     ensures own { OwnCalls call.entry (λ asks. Stepped
         (step F.Kind.acts B.Kind.acts asks
-            (model_of F.Kind.means B.Kind.means tray.old) buffer.old list.old)
+        (model_of F.Kind.means B.Kind.means tray.old) buffer.old list.old)
         result (model_of F.Kind.means B.Kind.means tray.new) buffer.new list.new) }
     ensures steps { (t : Model F.Kind.Shown F.Kind.Hidden B.Kind.Shown B.Kind.Hidden) (b : List ℕ) (l : List (List ℕ)) → Steps F.Kind.acts B.Kind.acts t b l }
     ensures runs { Law F.Kind.acts B.Kind.acts }

@@ -1,9 +1,9 @@
 -- The fault of the first field that is not in its form.
-use Rattle.std.proofs.Common.{◌≡◌, ◌≢◌, ℕ, zero, suc, ◌<◌, ◌≤◌, ◌⊎◌, inl, inr, Bool, true, false, cond, List, [], ◌∷◌, All, length, Some, None, Ok, Err, Option, Result, codes, decimal, sym, subst, refl, ap, ◌∙◌, arith}
+use Rattle.std.proofs.Common.{◌≡◌, ◌≢◌, ℕ, zero, suc, ◌<◌, ◌⊎◌, inl, inr, Bool, true, false, cond, List, [], ◌∷◌, All, length, Some, None, Ok, Err, Option, Result, codes, decimal, subst, refl, ap, ◌∙◌, arith}
 use Rattle.std.specs.Option.{ok_or}
 use Rattle.std.proofs.lemmas.Bool.{cond-false}
 use Rattle.std.proofs.lemmas.List.Elements.{All-cons}
-use Rattle.hex_pairs.specs.Hex.{Bytes, hex_bytes, hex_text, digit_value, byte_of, before}
+use Rattle.hex_pairs.specs.Hex.{Bytes, hex_bytes, digit_value, byte_of, before}
 use Rattle.parts.specs.Parts.{joined, Lacks}
 use Rattle.typeb.specs.CheckBytes.{sealed}
 use Rattle.tray_core.specs.Step as calls

@@ -1,5 +1,5 @@
 -- What a sheet names is a loaded tray: every pump tag was just made.
-use Rattle.std.proofs.Common.{◌≡◌, ℕ, zero, suc, ◌-◌, Bool, true, false, cond, ltb, All, List, [], ◌∷◌, ◌++◌, map, replicate, Ok, Err, Result, get_or, refl, subst, arith}
+use Rattle.std.proofs.Common.{◌≡◌, ℕ, zero, suc, ◌-◌, Bool, true, false, cond, ltb, All, List, [], ◌∷◌, ◌++◌, map, Ok, Err, Result, refl, subst, arith}
 use Rattle.std.proofs.lemmas.List.Elements.{All-map}
 use Rattle.kinds.specs.Kinds.{Meaning}
 use Rattle.tags.specs.Gauge.{GaugeMeaning}

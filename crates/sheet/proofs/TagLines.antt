@@ -1,5 +1,5 @@
 -- What tag lines and page lines change.
-use Rattle.std.proofs.Common.{◌≡◌, ◌≢◌, ℕ, zero, suc, ◌+◌, ◌-◌, ◌*◌, ◌<◌, ◌≤◌, ◌⊎◌, inl, inr, Bool, true, false, cond, eqb, ltb, List, [], ◌∷◌, ◌++◌, All, length, get_or, take, drop, replicate, Some, None, Ok, Err, Result, MatchResult, slice_get, slice_index, sym, subst, refl, ap, ◌∙◌, arith, length-append}
+use Rattle.std.proofs.Common.{◌≡◌, ◌≢◌, ℕ, zero, suc, ◌+◌, ◌-◌, ◌*◌, ◌<◌, ◌≤◌, ◌⊎◌, inl, inr, Bool, true, false, cond, ltb, List, [], ◌∷◌, ◌++◌, All, length, get_or, take, drop, replicate, Some, Ok, Err, Result, MatchResult, slice_get, sym, subst, refl, ap, ◌∙◌, arith, length-append}
 use Rattle.std.proofs.lemmas.Bool.{cond-true, cond-false, eqb-true, lt-ltb, le-ltb}
 use Rattle.std.proofs.lemmas.List.{length-take-le, length-drop, get_or-append_right, get_or_append_left, get_or-take, get_or-drop}
 use Rattle.std.proofs.lemmas.List.Elements.{All-replicate}
@@ -8,9 +8,9 @@ use Rattle.tags.specs.Gauge.{GaugeMeaning}
 use Rattle.tags.specs.Making.{pump_made, gauge_made}
 use Rattle.tags.specs.Pages.{put_page}
 use Rattle.tags.specs.Pump.{PumpMeaning}
-use Rattle.sheet.specs.Drafts.{Draft, blank_pump, blank_gauge, remade, repaged, in_front, behind, changed_at, row_paged, front_paged, back_paged}
+use Rattle.sheet.specs.Drafts.{Draft, blank_pump, blank_gauge, remade, repaged, in_front, behind, changed_at, row_paged, back_paged}
 use Rattle.sheet.specs.Sheets.{Stage, Naming, Came, Went, Stopped, with_front, with_back, paged}
-use Rattle.sheet.specs.TagLines.{PageWritten, IsMade, Replaced, PageLine, TagLines}
+use Rattle.sheet.specs.TagLines.{PageWritten, Replaced, PageLine, TagLines}
 use Rattle.sheet.proofs.Loading.{stage_made}
 
 -- the bytes beside the page
@@ -97,12 +97,15 @@ module _ {M : Type 0} (made : List ℕ → ℕ → Result M ℕ) where
         record {
           no_tag = λ h. ap wrap (no_tag (ltb page pages) h) ∙ off 18;
           no_page = λ h. ap wrap (cond-false (ltb page pages) _ _ (le-ltb page pages h)) ∙ off 18;
-          set = λ d there is_made below.
-              (put_page page bytes d.image,
-              (written page bytes d.image eight (let long = sized d.image d.draw d.tag is_made in omega arith),
+          set = λ d there is_made below. (
+            put_page page bytes d.image,
+            (
+              written page bytes d.image eight (let long = sized d.image d.draw d.tag is_made in omega arith),
               set_by d (put_page page bytes d.image) (made (put_page page bytes d.image) d.draw) _
-              (subst (λ (q : Result (List (Draft M)) ℕ). Changed (repaged made page bytes) n row (repaged made page bytes d) q)
-              (sym (cond-true (ltb page pages) _ _ (lt-ltb page pages below))) (found (repaged made page bytes) n row d there))));
+                  (subst (λ (q : Result (List (Draft M)) ℕ). Changed (repaged made page bytes) n row (repaged made page bytes d) q)
+                  (sym (cond-true (ltb page pages) _ _ (lt-ltb page pages below))) (found (repaged made page bytes) n row d there)),
+            ),
+          );
         }
 
 -- an image of which a tag is made has the kind's length
