@@ -18,3 +18,4 @@ pub mod Counting
 pub mod Courses
 pub mod Stocktaking
 pub mod Stepping
+pub mod Loaded
