@@ -11,6 +11,7 @@ pub mod Tallies
 pub mod Places
 pub mod Replied
 pub mod Listing
+pub mod OneList
 pub mod Framed
 pub mod Determined
 pub mod Answering
