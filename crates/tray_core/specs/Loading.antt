@@ -2,7 +2,6 @@
 use Rattle.std.specs.Prelude.{◌≡◌, ℕ, true, false, List, slice_get}
 use Rattle.std.specs.Option.{option_map}
 use Rattle.kinds.specs.Kinds.{Meaning}
-use Rattle.tray_core.specs.Rows.{Post}
 use Rattle.tray_core.specs.Trays.{loaded_with}
 
 -- A tray just loaded: the field is off, and a row has a place n exactly where its list has an n-th
