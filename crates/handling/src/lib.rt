@@ -16,7 +16,7 @@ use tray_core::tray::Tray;
 use typeb::frames::Serial;
 
 // Takes any of the six calls, with a buffer and a list of its own. A refused call leaves tray, buffer and list as they were.
-// What refuses a call, what is heard and what it makes of every tag, in the subject's words: clause `steps`.
+// What refuses a call, what is heard, what it makes of every tag and what a stock is, in the subject's words: clause `steps`.
 // Each is the tray's own call of that name: clause `own`.
 // No sequence of calls shows what a closed tag hides, undoes a lock or loses a count: clause `runs`.
 #[tactic(auto, using(tray_core::proofs::Stepping::steps, crate::proofs::Own::own_calls))]

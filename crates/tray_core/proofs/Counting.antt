@@ -3,7 +3,7 @@ use Rattle.std.proofs.Common.{◌≡◌, ℕ, suc, ◌+◌, Bool, true, false, L
 use Rattle.std.proofs.lemmas.List.{length-append}
 use Rattle.std.proofs.lemmas.List.Elements.{All-nil, All-cons}
 use Rattle.kinds.specs.Kinds.{Behaviour}
-use Rattle.tray_core.specs.Course.{Slot, Silent, Clashed, Unsound, Heard, AllSilent, TakesRounds, quiet_round, last_round, round, sent_in, clashes_in, last_clashes, serials_in}
+use Rattle.tray_core.specs.Course.{Slot, Silent, Clashed, Unsound, Answered, AllSilent, TakesRounds, quiet_round, last_round, round, sent_in, clashes_in, last_clashes, serials_in}
 use Rattle.tray_core.specs.Stock.{Tally, sent, clashed, loud, noted, joins}
 use Rattle.tray_core.specs.Trays.{Model}
 use Rattle.tray_core.proofs.Listing.{noted_all}
@@ -13,7 +13,7 @@ abbrev pub after_slot : Slot → Tally → Tally
 after_slot Silent c = sent c
 after_slot Clashed c = clashed (sent c)
 after_slot Unsound c = loud (sent c)
-after_slot (Heard serial) c = noted serial (sent (loud (sent c)))
+after_slot (Answered serial) c = noted serial (sent (loud (sent c)))
 
 abbrev pub after_slots : List Slot → Tally → Tally
 after_slots [] c = c
@@ -79,7 +79,7 @@ one_more_slot frame frames Unsound slots c d k =
       quiet = λ on. absurd cc;
       noisy = λ on now all. let first = first_silent Unsound slots all in cc;
     }
-one_more_slot frame frames (Heard serial) slots c d k =
+one_more_slot frame frames (Answered serial) slots c d k =
     let off = k.still_loud refl in
     record {
       sent_more = omega arith;
@@ -88,7 +88,7 @@ one_more_slot frame frames (Heard serial) slots c d k =
       noted_more = k.noted_more;
       still_loud = λ was. off;
       quiet = λ on. absurd cc;
-      noisy = λ on now all. let first = first_silent (Heard serial) slots all in cc;
+      noisy = λ on now all. let first = first_silent (Answered serial) slots all in cc;
     }
 
 -- rounds one after another

@@ -1,7 +1,7 @@
 -- A stock takes its course: its script before a tray, slot by slot and round by round.
 use Rattle.std.proofs.Common.{◌≡◌, ℕ, zero, suc, ◌+◌, Bool, true, false, cond, List, [], ◌∷◌, length, Some, None, Option, sym, refl, ap, ◌∙◌, arith}
 use Rattle.kinds.specs.Kinds.{Behaviour}
-use Rattle.tray_core.specs.Course.{Slot, Silent, Clashed, Unsound, Heard, TakesSlot, silent, clashed, unsound, heard, TakesSlots, no_slot, slot, TakesRounds, quiet_round, last_round, round, slot_frames, hltb, sent_from, last_clashes, serials_in, sent_in, all_serials}
+use Rattle.tray_core.specs.Course.{Slot, Silent, Clashed, Unsound, Answered, TakesSlot, silent, clashed, unsound, heard, TakesSlots, no_slot, slot, TakesRounds, quiet_round, last_round, round, slot_frames, hltb, sent_from, last_clashes, serials_in, sent_in, all_serials}
 use Rattle.tray_core.specs.Replies.{replies}
 use Rattle.tray_core.specs.Scripts.{Script, done, played, after_play, SameEnd}
 use Rattle.tray_core.specs.Sounds.{Sounds, Silence, Reply, Clash}
@@ -46,10 +46,10 @@ module _ {SF HF SB HB : Type 0} (F : Behaviour SF HF) (B : Behaviour SB HB) wher
 
       answered : (o : Option (List ℕ)) → answering a ≡ o → Slotted
       answered (Some serial) is =
-          let halted : SameEnd F B (halting (Some serial) next (loud (sent c))) (after_frame F B frame t) (next (after_slot (Heard serial) c)) (after_frame F B (hltb serial) (after_frame F B frame t)) =
+          let halted : SameEnd F B (halting (Some serial) next (loud (sent c))) (after_frame F B frame t) (next (after_slot (Answered serial) c)) (after_frame F B (hltb serial) (after_frame F B frame t)) =
           record { result = refl; tray = refl } in
           record {
-            one = Heard serial;
+            one = Answered serial;
             after = after_frame F B (hltb serial) (after_frame F B frame t);
             takes = heard one (sound_answer a serial is);
             ends = same_end F B (judged_so (Some serial) is) halted;

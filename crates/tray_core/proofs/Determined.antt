@@ -2,7 +2,7 @@
 use Rattle.std.proofs.Common.{◌≡◌, ℕ, suc, Bool, false, List, [], ◌∷◌, ◌++◌, take, drop, sym, refl, ap, subst, ◌∙◌, ap₂}
 use Rattle.std.proofs.lemmas.List.{append_assoc, take_at}
 use Rattle.kinds.specs.Kinds.{Behaviour}
-use Rattle.tray_core.specs.Course.{Slot, Heard, SoundAnswer, AllSilent, TakesSlot, silent, clashed, unsound, heard, TakesSlots, no_slot, slot, TakesRounds, quiet_round, last_round, round, TakesStock, hltb}
+use Rattle.tray_core.specs.Course.{Slot, Answered, SoundAnswer, AllSilent, TakesSlot, silent, clashed, unsound, heard, TakesSlots, no_slot, slot, TakesRounds, quiet_round, last_round, round, TakesStock, hltb}
 use Rattle.tray_core.specs.Trays.{Model, after_frame}
 
 -- a sound answer holds one serial number
@@ -41,7 +41,7 @@ module _ {SF HF SB HB : Type 0} (F : Behaviour SF HF) (B : Behaviour SB HB) wher
   same_slot {frame} {t} (heard {a = a} {serial = s} one sound) (heard {a = b} {serial = r} other also) =
       let same : b ≡ a = cc in
       let serials : r ≡ s = same_serial sound (subst (λ (x : List ℕ). SoundAnswer x r) same also) in
-      (ap Heard serials, ap (λ (x : List ℕ). after_frame F B (hltb x) (after_frame F B frame t)) serials)
+      (ap Answered serials, ap (λ (x : List ℕ). after_frame F B (hltb x) (after_frame F B frame t)) serials)
 
   same_slots : {frames : List (List ℕ)} {t u v : M} {a b : List Slot} → TakesSlots F B frames t a u → TakesSlots F B frames t b v → (b ≡ a) × (v ≡ u)
   same_slots no_slot no_slot = (refl, refl)

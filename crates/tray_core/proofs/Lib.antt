@@ -11,6 +11,7 @@ pub mod Tallies
 pub mod Places
 pub mod Replied
 pub mod Listing
+pub mod OneList
 pub mod Framed
 pub mod Determined
 pub mod Answering
@@ -18,3 +19,4 @@ pub mod Counting
 pub mod Courses
 pub mod Stocktaking
 pub mod Stepping
+pub mod Loaded

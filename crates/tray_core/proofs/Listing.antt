@@ -50,7 +50,7 @@ place x s (f ∷ first) second (y ∷ ys) e =
     let same : y ≡ f = cc in
     subst (λ (g : List ℕ). LastOrEarlier x s (g ∷ first) second (y ∷ ys)) same (further y x s first second ys (place x s first second ys (cc)))
 
-among_there : (x : List ℕ) (first second xs : List (List ℕ)) → xs ≡ first ++ (x ∷ second) → Among x xs
+pub among_there : (x : List ℕ) (first second xs : List (List ℕ)) → xs ≡ first ++ (x ∷ second) → Among x xs
 among_there x first second xs e = subst (Among x) (sym e) (there first)
   where
     there : (front : List (List ℕ)) → Among x (front ++ (x ∷ second))

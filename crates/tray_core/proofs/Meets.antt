@@ -1,6 +1,8 @@
 -- Replies meet in any grouping and order, silence adds nothing, and they are heard by their number.
-use Rattle.std.proofs.Common.{◌≡◌, ℕ, List, [], ◌∷◌, sym, refl, ap, ◌∙◌, add_comm, arith}
-use Rattle.tray_core.specs.Sounds.{Sounds, Silence, Reply, Clash, Meeting, meet, together, voices, audible, count_replies}
+use Rattle.std.proofs.Common.{◌≡◌, ℕ, List, [], ◌∷◌, sym, refl, ap, ◌∙◌, add_comm, nat_lt, length, arith}
+use Rattle.std.proofs.lemmas.Bool.{cond-true, le-leb}
+use Rattle.std.specs.List.{filter}
+use Rattle.tray_core.specs.Sounds.{Sounds, Silence, Reply, Clash, Meeting, meet, together, voices, count_replies}
 
 pub grouping : (x y z : Sounds) → meet (meet x y) z ≡ meet x (meet y z)
 grouping Silence y z = refl
@@ -38,10 +40,19 @@ one_more a [] = refl
 one_more a (b ∷ []) = refl
 one_more a (b ∷ (c ∷ more)) = ap Clash (omega arith)
 
+-- the replies that have a byte
+abbrev pub audible : List (List ℕ) → List (List ℕ)
+audible replies = filter (λ reply. nat_lt 0 (length reply)) replies
+
+pub has_byte : (b : ℕ) (bytes : List ℕ) (more : List (List ℕ)) → audible ((b ∷ bytes) ∷ more) ≡ (b ∷ bytes) ∷ audible more
+has_byte b bytes more = cond-true (nat_lt 0 (length (b ∷ bytes))) _ _ (le-leb 1 (length (b ∷ bytes)) (omega arith))
+
 by_number : (replies : List (List ℕ)) → together (voices replies) ≡ count_replies (audible replies)
 by_number [] = refl
 by_number ([] ∷ more) = by_number more
-by_number ((b ∷ bytes) ∷ more) = ap (meet (Reply (b ∷ bytes))) (by_number more) ∙ one_more (b ∷ bytes) (audible more)
+by_number ((b ∷ bytes) ∷ more) =
+    ap (meet (Reply (b ∷ bytes))) (by_number more) ∙ one_more (b ∷ bytes) (audible more)
+    ∙ ap count_replies (sym (has_byte b bytes more))
 
 pub meeting : Meeting
 meeting = record { grouping = grouping; order = order; silence = silence; by_number = by_number }

@@ -10,6 +10,7 @@ use Rattle.tray_core.proofs.Courses.{Stocked, rounded}
 use Rattle.tray_core.proofs.Determined.{determined}
 use Rattle.tray_core.proofs.Framed.{as_frames, stays}
 use Rattle.tray_core.proofs.Listing.{listing}
+use Rattle.tray_core.proofs.OneList.{same_list}
 
 module _ {SF HF SB HB : Type 0} (F : Behaviour SF HF) (B : Behaviour SB HB) (t : Model SF HF SB HB) (buffer : List ℕ) (list : List (List ℕ)) (fit : (length t.front ≤ 32) × (length t.back ≤ 32)) where
   abbrev M : Type 0
@@ -23,6 +24,7 @@ module _ {SF HF SB HB : Type 0} (F : Behaviour SF HF) (B : Behaviour SB HB) (t :
       let stay = stays F B s.takes in
       let frames : s.tally.frames ≡ length (sent_from true s.course) = omega (arith, s.sent_all) in
       let rounds : s.tally.rounds ≡ length s.course = omega (arith, s.rounds_all) in
+      let noted : Lists (all_serials s.course) s.tally.serials = subst (Lists (all_serials s.course)) (sym s.noted_each) (listing (all_serials s.course)) in
       record {
         rounds = s.course;
         takes = s.takes;
@@ -32,7 +34,8 @@ module _ {SF HF SB HB : Type 0} (F : Behaviour SF HF) (B : Behaviour SB HB) (t :
         in_front = stay.in_front;
         behind = stay.behind;
         entries = s.tally.serials;
-        lists = subst (Lists (all_serials s.course)) (sym s.noted_each) (listing (all_serials s.course));
+        lists = noted;
+        only_entries = λ es also. same_list (all_serials s.course) es s.tally.serials also noted;
         listed = refl;
         answers = cc (frames, rounds, s.clashes_last);
       }

@@ -15,7 +15,7 @@ pub data Slot : Type 0 where
   Silent : Slot
   Clashed : Slot
   Unsound : Slot
-  Heard : List ℕ → Slot
+  Answered : List ℕ → Slot
 
 -- A sound answer to a request: 0x50, serial number, application data, protocol info, and the right
 -- check bytes.
@@ -45,18 +45,22 @@ AllSilent round = All (λ slot. slot ≡ Silent) round
 module _ {SF HF SB HB : Type 0} (F : Behaviour SF HF) (B : Behaviour SB HB) where
   -- A slot before a tray: its frame is sent; where one reply is heard and it is a sound answer,
   -- HLTB follows for the serial number in it.
-  pub data TakesSlot (frame : List ℕ) (t : Model SF HF SB HB) : Slot → Model SF HF SB HB → Type 0 where
+  pub data TakesSlot (frame : List ℕ) (t : Model SF HF SB HB)
+      : Slot → Model SF HF SB HB → Type 0 where
     silent : replies F B t frame ≡ [] → TakesSlot frame t Silent (after_frame F B frame t)
-    clashed : {a b : List ℕ} {more : List (List ℕ)} → replies F B t frame ≡ a ∷ (b ∷ more)
+    clashed : {a b : List ℕ} {more : List (List ℕ)}
+        → replies F B t frame ≡ a ∷ (b ∷ more)
         → TakesSlot frame t Clashed (after_frame F B frame t)
     unsound : {a : List ℕ} → replies F B t frame ≡ a ∷ []
         → ((serial : List ℕ) → SoundAnswer a serial → ⊥)
         → TakesSlot frame t Unsound (after_frame F B frame t)
     heard : {a serial : List ℕ} → replies F B t frame ≡ a ∷ [] → SoundAnswer a serial
-        → TakesSlot frame t (Heard serial) (after_frame F B (hltb serial) (after_frame F B frame t))
+        → TakesSlot frame t (Answered serial)
+        (after_frame F B (hltb serial) (after_frame F B frame t))
 
   -- Slots one after another, each with its frame.
-  pub data TakesSlots : List (List ℕ) → Model SF HF SB HB → List Slot → Model SF HF SB HB → Type 0 where
+  pub data TakesSlots
+      : List (List ℕ) → Model SF HF SB HB → List Slot → Model SF HF SB HB → Type 0 where
     no_slot : {t : Model SF HF SB HB} → TakesSlots [] t [] t
     slot : {frame : List ℕ} {frames : List (List ℕ)} {t u v : Model SF HF SB HB}
         {one : Slot} {others : List Slot}
@@ -65,7 +69,8 @@ module _ {SF HF SB HB : Type 0} (F : Behaviour SF HF) (B : Behaviour SB HB) wher
 
   -- At most so many rounds, of which the first wakes or does not, and no later one does: a round
   -- whose slots are all silent is the last, and so is one after which none is left.
-  pub data TakesRounds : Bool → ℕ → Model SF HF SB HB → List (List Slot) → Model SF HF SB HB → Type 0 where
+  pub data TakesRounds
+      : Bool → ℕ → Model SF HF SB HB → List (List Slot) → Model SF HF SB HB → Type 0 where
     quiet_round : {wakes : Bool} {left : ℕ} {t u : Model SF HF SB HB} {round : List Slot}
         → TakesSlots (slot_frames wakes) t round u → AllSilent round
         → TakesRounds wakes (suc left) t (round ∷ []) u
@@ -84,7 +89,7 @@ module _ {SF HF SB HB : Type 0} (F : Behaviour SF HF) (B : Behaviour SB HB) wher
 
 -- All frames that were sent, in order.
 abbrev pub sent_in : List (List ℕ) → List Slot → List (List ℕ)
-sent_in (frame ∷ frames) (Heard serial ∷ slots) = frame ∷ (hltb serial ∷ sent_in frames slots)
+sent_in (frame ∷ frames) (Answered serial ∷ slots) = frame ∷ (hltb serial ∷ sent_in frames slots)
 sent_in (frame ∷ frames) (Silent ∷ slots) = frame ∷ sent_in frames slots
 sent_in (frame ∷ frames) (Clashed ∷ slots) = frame ∷ sent_in frames slots
 sent_in (frame ∷ frames) (Unsound ∷ slots) = frame ∷ sent_in frames slots
@@ -101,7 +106,7 @@ clashes_in [] = 0
 clashes_in (Silent ∷ slots) = clashes_in slots
 clashes_in (Clashed ∷ slots) = clashes_in slots + 1
 clashes_in (Unsound ∷ slots) = clashes_in slots
-clashes_in (Heard serial ∷ slots) = clashes_in slots
+clashes_in (Answered serial ∷ slots) = clashes_in slots
 
 abbrev pub last_clashes : List (List Slot) → ℕ
 last_clashes [] = 0
@@ -114,7 +119,7 @@ serials_in [] = []
 serials_in (Silent ∷ slots) = serials_in slots
 serials_in (Clashed ∷ slots) = serials_in slots
 serials_in (Unsound ∷ slots) = serials_in slots
-serials_in (Heard serial ∷ slots) = serial ∷ serials_in slots
+serials_in (Answered serial ∷ slots) = serial ∷ serials_in slots
 
 abbrev pub all_serials : List (List Slot) → List (List ℕ)
 all_serials [] = []
@@ -138,7 +143,8 @@ pub record Lists (heard entries : List (List ℕ)) : Type 0 where
 
 -- What comes of a stock of a tray whose rows fit, with a list of 128 places or more.
 module _ {SF HF SB HB : Type 0} (F : Behaviour SF HF) (B : Behaviour SB HB) where
-  pub record Stocktakes (t : Model SF HF SB HB) (list : List (List ℕ)) (o : Outcome (Model SF HF SB HB)) : Type 0 where
+  pub record Stocktakes (t : Model SF HF SB HB) (list : List (List ℕ))
+      (o : Outcome (Model SF HF SB HB)) : Type 0 where
     -- The course that it takes, to the tray after it; and no stock of this tray takes another.
     pub rounds : List (List Slot)
     pub takes : TakesStock F B t rounds o.tray
@@ -155,9 +161,11 @@ module _ {SF HF SB HB : Type 0} (F : Behaviour SF HF) (B : Behaviour SB HB) wher
     pub field : o.tray.field ≡ t.field
     pub in_front : map (λ p. p.here) o.tray.front ≡ map (λ p. p.here) t.front
     pub behind : map (λ p. p.here) o.tray.back ≡ map (λ p. p.here) t.back
-    -- Serial numbers listed, in front of the list; its other places are as they were.
+    -- Serial numbers listed, in front of the list, the one list of what was heard; its other places
+    -- are as they were.
     pub entries : List (List ℕ)
     pub lists : Lists (all_serials rounds) entries
+    pub only_entries : (es : List (List ℕ)) → Lists (all_serials rounds) es → es ≡ entries
     pub listed : o.list ≡ entries ++ drop (length entries) list
     -- The answer: frames sent, rounds, clashed slots of the last round, places filled.
     pub answers : o.answer

@@ -8,6 +8,7 @@ pub mod Replies
 pub mod Runs
 pub mod Course
 pub mod Steps
+pub mod Loading
 pub mod Hiding
 pub mod Views
 pub mod Lending

@@ -1,8 +1,8 @@
 -- The replies to a frame: what the tags that have power answer.
-use Rattle.std.specs.Prelude.{ℕ, cond, List, [], ◌∷◌, ◌++◌}
+use Rattle.std.specs.Prelude.{ℕ, if◌then◌else◌, List, [], ◌∷◌, ◌++◌, length, nat_lt}
+use Rattle.std.specs.List.{filter}
 use Rattle.kinds.specs.Kinds.{Behaviour}
 use Rattle.tray_core.specs.Rows.{Post}
-use Rattle.tray_core.specs.Sounds.{audible}
 use Rattle.tray_core.specs.Trays.{Model}
 
 -- The replies of a row's tags that are on the tray.
@@ -10,12 +10,14 @@ module _ {S H : Type 0} (b : Behaviour S H) where
   abbrev pub replies_in : List ℕ → List (Post S H) → List (List ℕ)
   replies_in frame [] = []
   replies_in frame (p ∷ row) =
-      cond p.here ((b.hears frame p.tag).reply ∷ replies_in frame row) (replies_in frame row)
+      if p.here then (b.hears frame p.tag).reply ∷ replies_in frame row else replies_in frame row
 
--- The replies, of one byte or more, of the tags that have power.
+-- The replies of the tags that have power, front row first. A reply of no byte is none; one of any
+-- other length counts.
 module _ {SF HF SB HB : Type 0} (F : Behaviour SF HF) (B : Behaviour SB HB) where
   abbrev pub replies : Model SF HF SB HB → List ℕ → List (List ℕ)
   replies t frame =
-      cond t.field
-      (audible (replies_in F frame t.front) ++ audible (replies_in B frame t.back))
-      []
+      if t.field
+      then filter (λ reply. nat_lt 0 (length reply))
+      (replies_in F frame t.front ++ replies_in B frame t.back)
+      else []

@@ -1,5 +1,6 @@
 -- What a reader hears after a frame, and how replies meet on the air.
-use Rattle.std.specs.Prelude.{◌≡◌, ℕ, ◌+◌, List, [], ◌∷◌, length}
+use Rattle.std.specs.Prelude.{◌≡◌, ℕ, ◌+◌, List, [], ◌∷◌, length, nat_lt}
+use Rattle.std.specs.List.{filter}
 
 -- Nothing, one reply, or a clash of so many.
 pub data Sounds : Type 0 where
@@ -33,20 +34,15 @@ count_replies [] = Silence
 count_replies (a ∷ []) = Reply a
 count_replies (a ∷ (b ∷ more)) = Clash (length more + 2)
 
--- The replies that have a byte.
-abbrev pub audible : List (List ℕ) → List (List ℕ)
-audible [] = []
-audible ([] ∷ more) = audible more
-audible ((b ∷ bytes) ∷ more) = (b ∷ bytes) ∷ audible more
-
 abbrev pub voices : List (List ℕ) → List Sounds
 voices [] = []
 voices (a ∷ more) = voice a ∷ voices more
 
 -- Grouping and order do not change what is heard, silence adds nothing,
--- and replies that meet are heard by their number.
+-- and replies that meet are heard by the number of those that have a byte.
 pub record Meeting : Type 0 where
   pub grouping : (x y z : Sounds) → meet (meet x y) z ≡ meet x (meet y z)
   pub order : (x y : Sounds) → meet x y ≡ meet y x
   pub silence : (x : Sounds) → meet x Silence ≡ x
-  pub by_number : (replies : List (List ℕ)) → together (voices replies) ≡ count_replies (audible replies)
+  pub by_number : (replies : List (List ℕ))
+      → together (voices replies) ≡ count_replies (filter (λ reply. nat_lt 0 (length reply)) replies)

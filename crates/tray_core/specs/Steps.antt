@@ -64,5 +64,5 @@ module _ {SF HF SB HB : Type 0} (F : Behaviour SF HF) (B : Behaviour SB HB) (t :
     -- Only Frame writes into the buffer, and only Stock into the list.
     pub buffer_kept : (c : Asks) → ((frame : List ℕ) → c ≢ Frame frame) → (comes c).buffer ≡ buffer
     pub list_kept : (c : Asks) → (c ≢ Stock) → (comes c).list ≡ list
-    -- Stock takes its course.
+    -- What a stock sends, answers, lists and leaves.
     pub stock : Fit → 128 ≤ length list → Stocktakes F B t list (comes Stock)

@@ -2,8 +2,10 @@
 ghost use Rattle.std.specs.Prelude.{◌≡◌, ℕ, false, if◌then◌else◌, List, map, Ok, MatchResult};
 ghost use Rattle.std.specs.Borrow.{sem};
 ghost use Rattle.refusals.specs.declared.Refusal.{Refusal};
+ghost use Rattle.kinds.specs.Kinds.{Meaning};
 ghost use Rattle.tray_core.specs.Hiding.{Hiding};
 ghost use Rattle.tray_core.specs.Lending.{LendsRows};
+ghost use Rattle.tray_core.specs.Loading.{Loads};
 ghost use Rattle.tray_core.specs.Step.{Stepped, step, On, Off, Place, Lift};
 ghost use Rattle.tray_core.specs.Steps.{Steps};
 ghost use Rattle.tray_core.specs.Trays.{Model, loaded_with, rows_fit, turned_on, turned_off, after_frame, sounds_of};
@@ -73,12 +75,13 @@ impl<F: Kind, B: Kind> Rows<F, B> {
 }
 
 impl<F: Kind, B: Kind> Tray<F, B> {
-    // A tray of tags just made: all of them on the tray, the field off.
-    // Of every tray of these kinds, in any state: what refuses a call, what is heard and what it makes of every tag, clause `steps`;
-    // no sequence of calls shows what a closed tag hides, clause `hiding`.
-    #[tactic(auto, using(crate::proofs::Stepping::steps))]
+    // A tray of tags just made: all of them on the tray, each in the place of its number, the field off, clause `loads`.
+    // Of every tray of these kinds, in any state: what refuses a call, what is heard, what it makes of every tag and what a stock is,
+    // clause `steps`; no sequence of calls shows what a closed tag hides, clause `hiding`.
+    #[tactic(auto, using(crate::proofs::Stepping::steps, crate::proofs::Loaded::loads))]
     pub fn load(front: Vec<F>, back: Vec<B>) -> Tray<F, B>
         ensures result { model_of F.Kind.means B.Kind.means result ≡ loaded_with (map F.Kind.means front.items) (map B.Kind.means back.items) }
+        ensures loads { (fs : List (Meaning F.Kind.Shown F.Kind.Hidden)) (bs : List (Meaning B.Kind.Shown B.Kind.Hidden)) → Loads fs bs }
         ensures steps { (t : Model F.Kind.Shown F.Kind.Hidden B.Kind.Shown B.Kind.Hidden) (b : List ℕ) (l : List (List ℕ)) → Steps F.Kind.acts B.Kind.acts t b l }
         ensures hiding { Hiding F.Kind.acts B.Kind.acts }
     {
