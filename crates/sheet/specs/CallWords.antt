@@ -1,4 +1,4 @@
--- Which text of a line is which call, tag or page: in what the line says, which is what the run does,
+-- Which text of a line is which call, tag or page: in what the line says, by which a run does it,
 -- and in the value of the code that is read of it.
 use Rattle.std.specs.Prelude.{◌≡◌, ◌≢◌, ℕ, ◌/◌, ◌%◌, ◌<◌, ◌≤◌, List, [], ◌∷◌, All, length, Ok, Err, Result, codes, decimal}
 use Rattle.hex_pairs.specs.Hex.{Bytes, hex_text}

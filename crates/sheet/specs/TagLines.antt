@@ -49,8 +49,8 @@ module _ {M : Type 0} (made : List ℕ → ℕ → Result M ℕ) where
         × Replaced n (record { image = image; draw = d.draw; tag = tag }) row after))
         (λ why. came ≡ Stopped why))
 
--- At every stage before the first call. Pump tags are in front, numbered from 0, and have pages 0 to
--- 31; gauges are behind, numbered from 32, and have pages 0 and 1.
+-- At every stage before the first call. Pump tags are in front, numbered from 0, and have pages 0
+-- to 31; gauges are behind, numbered from 32, and have pages 0 and 1.
 pub record TagLines : Type 0 where
   -- A tag line puts a blank tag at the end of its row, and changes nothing else.
   pub pump : (draw : ℕ) (front : List (Draft PumpMeaning)) (back : List (Draft GaugeMeaning))
