@@ -25,21 +25,10 @@ use Rattle.sheet.specs.declared.words.TagKind.TheVariants.{Pump, Gauge}
 use Rattle.sheet.specs.declared.words.Word.{Word}
 use Rattle.sheet.specs.declared.words.Word.TheVariants as word
 use Rattle.sheet.specs.Lines.{Says, Tag, Page, Calls, word_of, kind_of, word_says, behind_say, fields_say, line_says, said_in, ◌>>=◌}
-use Rattle.sheet.specs.CallWords.{words, draw_text, ReadsFrame, CallWords}
+use Rattle.sheet.specs.CallWords.{words, draw_text, IsRead, IsSaid, CallWords}
 
--- what the code read, by what the line says
-abbrev pub Reads : Result Says LineFault → Result Line LineFault → Type 0
-Reads (Ok (Tag kind draw)) r = r ≡ Ok (line.Tag kind draw)
-Reads (Ok (Page tag page bytes)) r = r ≡ Ok (line.Page tag page bytes)
-Reads (Ok (Calls calls.On)) r = r ≡ Ok (line.Calls call.On)
-Reads (Ok (Calls calls.Off)) r = r ≡ Ok (line.Calls call.Off)
-Reads (Ok (Calls (calls.Place n))) r = r ≡ Ok (line.Calls (call.Place n))
-Reads (Ok (Calls (calls.Lift n))) r = r ≡ Ok (line.Calls (call.Lift n))
-Reads (Ok (Calls (calls.Frame bytes))) r = ReadsFrame r bytes
-Reads (Ok (Calls calls.Stock)) r = r ≡ Ok (line.Calls call.Stock)
-Reads (Err why) r = r ≡ Err why
-
-reads : (r : Result Line LineFault) → Reads (said_in r) r
+-- the value of the code, by what it says
+reads : (r : Result Line LineFault) → IsRead r (said_in r)
 reads (Ok (line.Tag kind draw)) = refl
 reads (Ok (line.Page tag page bytes)) = refl
 reads (Ok (line.Calls call.On)) = refl
@@ -132,12 +121,12 @@ page_count (a ∷ b ∷ []) h = refl
 page_count (a ∷ b ∷ c ∷ []) h = absurd (h refl)
 page_count (a ∷ b ∷ c ∷ d ∷ more) h = refl
 
-module _ (text : List ℕ) (r : Result Line LineFault) (is : said_in r ≡ line_says text) where
-  pub by : (s : Result Says LineFault) → line_says text ≡ s → Reads s r
-  by s e = subst (λ (x : Result Says LineFault). Reads x r) (is ∙ e) (reads r)
+pub by_value : (text : List ℕ) (r : Result Line LineFault) → said_in r ≡ line_says text → (s : Result Says LineFault) → line_says text ≡ s → IsRead r s
+by_value text r is s e = subst (IsRead r) (is ∙ e) (reads r)
 
+module _ (text : List ℕ) (Gives : Result Says LineFault → Type 0) (by : (s : Result Says LineFault) → line_says text ≡ s → Gives s) where
   abbrev Miscounted : List ℕ × ℕ → Type 0
-  Miscounted w = (more : List (List ℕ)) → length more ≢ w.1 → All (Lacks 44) more → text ≡ joined (w.0 ∷ more) → r ≡ Err fault.FieldCount
+  Miscounted w = (more : List (List ℕ)) → length more ≢ w.1 → All (Lacks 44) more → text ≡ joined (w.0 ∷ more) → Gives (Err fault.FieldCount)
 
   miscounted : (first : List ℕ) (n : ℕ) → Lacks 44 first → ((more : List (List ℕ)) → length more ≢ n → behind_say (word_of first) more ≡ Err fault.FieldCount) → Miscounted (first, n)
   miscounted first n front count more h lack e = by (Err fault.FieldCount) (says text first more front lack e ∙ count more h)
@@ -176,7 +165,7 @@ module _ (text : List ℕ) (r : Result Line LineFault) (is : said_in r ≡ line_
       ∙ ap (λ (f : Result ℕ FieldFault). f >>= (λ p. bytes_in 8 8 (hex_text bytes) >>= (λ b. Ok (Page tag p b)))) (number_reads_back page k)
       ∙ ap (λ (f : Result (List ℕ) FieldFault). f >>= (λ b. Ok (Page tag page b))) (bytes_read_back 8 8 bytes all (omega arith) (omega arith))
 
-  pub call_words : CallWords text r
+  pub call_words : CallWords text Gives
   call_words =
       record {
         on = λ e. by (Ok (Calls calls.On)) (ap line_says e);
@@ -201,3 +190,6 @@ module _ (text : List ℕ) (r : Result Line LineFault) (is : said_in r ≡ line_
             (All-cons Miscounted (codes "send", 1) (drop 8 words) (miscounted (codes "send") 1 (lacks (codes "send") refl) (one_behind word.Send refl (λ a b more. refl)))
             (All-cons Miscounted (codes "raw", 1) [] (miscounted (codes "raw") 1 (lacks (codes "raw") refl) (one_behind word.Raw refl (λ a b more. refl))) (All-nil Miscounted)))))))));
       }
+
+pub said_words : (text : List ℕ) → CallWords text (IsSaid text)
+said_words text = call_words text (IsSaid text) (λ s e. e)

@@ -14,12 +14,12 @@ use Rattle.fields.proofs.OnlyRead.{number_only_read, bytes_only_read, draw_only_
 use Rattle.fields.proofs.ReadBack.{number_reads_back}
 use Rattle.sheet.specs.declared.faults.LineFault.{LineFault}
 use Rattle.sheet.specs.declared.faults.LineFault.TheVariants as fault
-use Rattle.sheet.specs.declared.lines.Line.{Line}
 use Rattle.sheet.specs.declared.words.TagKind.{TagKind}
 use Rattle.sheet.specs.declared.words.TagKind.TheVariants.{Pump, Gauge}
-use Rattle.sheet.specs.Lines.{Says, Tag, Page, Calls, kind_of, line_says, said_in, ◌>>=◌}
+use Rattle.sheet.specs.Lines.{Says, Tag, Page, Calls, kind_of, line_says, ◌>>=◌}
+use Rattle.sheet.specs.CallWords.{IsSaid}
 use Rattle.sheet.specs.FieldForms.{NoNumber, NoBytes, NoDraw, FieldForms}
-use Rattle.sheet.proofs.CallWords.{by, says, differs, lacks, one, decimal_lacks}
+use Rattle.sheet.proofs.CallWords.{says, differs, lacks, one, decimal_lacks}
 
 -- bytes that hex text gives are bytes
 both : (b : ℕ) (bs : List ℕ) → b < 256 → Bytes bs → Bytes (b ∷ bs)
@@ -67,12 +67,12 @@ two a b p q = All-cons (Lacks 44) a (b ∷ []) p (one b q)
 three : (a b c : List ℕ) → Lacks 44 a → Lacks 44 b → Lacks 44 c → All (Lacks 44) (a ∷ b ∷ c ∷ [])
 three a b c p q r = All-cons (Lacks 44) a (b ∷ c ∷ []) p (two b c q r)
 
-module _ (text : List ℕ) (r : Result Line LineFault) (is : said_in r ≡ line_says text) where
+module _ (text : List ℕ) (Gives : Result Says LineFault → Type 0) (by : (s : Result Says LineFault) → line_says text ≡ s → Gives s) where
   abbrev Faulty : FieldFault → Type 0
-  Faulty f = r ≡ Err (fault.Field f)
+  Faulty f = Gives (Err (fault.Field f))
 
   faulty : (f : FieldFault) → line_says text ≡ Err (fault.Field f) → Faulty f
-  faulty f e = by text r is (Err (fault.Field f)) e
+  faulty f e = by (Err (fault.Field f)) e
 
   -- a field of its own, with what follows from its value
   stops : {A : Type 0} (o : Result A FieldFault) (next : A → Result Says LineFault) (f : FieldFault) → line_says text ≡ o >>= next → o ≡ Err f → Faulty f
@@ -101,7 +101,7 @@ module _ (text : List ℕ) (r : Result Line LineFault) (is : said_in r ≡ line_
       page_by (decimal tag) page bytes (decimal_lacks tag h) q s e
       ∙ ap (λ (x : Result ℕ FieldFault). x >>= (λ t. number_of page >>= (λ p. bytes_in 8 8 bytes >>= (λ b. Ok (Page t p b))))) (number_reads_back tag h)
 
-  pub field_forms : FieldForms text r
+  pub field_forms : FieldForms text Gives
   field_forms =
       record {
         place = λ tag lack other e.
@@ -125,3 +125,6 @@ module _ (text : List ℕ) (r : Result Line LineFault) (is : said_in r ≡ line_
             ∙ ap (λ (x : Result ℕ FieldFault). x >>= (λ p. bytes_in 8 8 bytes >>= (λ b. Ok (Page tag p b)))) (number_reads_back page k))
             (no_bytes 8 8 bytes other);
       }
+
+pub said_forms : (text : List ℕ) → FieldForms text (IsSaid text)
+said_forms text = field_forms text (IsSaid text) (λ s e. e)

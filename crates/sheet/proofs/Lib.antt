@@ -7,3 +7,4 @@ pub mod TagLines
 pub mod CallWords
 pub mod SheetLines
 pub mod FieldForms
+pub mod Printed

@@ -1,15 +1,18 @@
 -- What tag lines and page lines change.
-use Rattle.std.proofs.Common.{◌≡◌, ◌≢◌, ℕ, zero, suc, ◌+◌, ◌-◌, ◌*◌, ◌<◌, ◌≤◌, ◌⊎◌, inl, inr, Bool, true, false, cond, ltb, List, [], ◌∷◌, ◌++◌, All, length, get_or, take, drop, replicate, Some, Ok, Err, Result, MatchResult, slice_get, sym, subst, refl, ap, ◌∙◌, arith, length-append}
+use Rattle.std.proofs.Common.{◌≡◌, ◌≢◌, ℕ, zero, suc, ◌+◌, ◌-◌, ◌*◌, ◌<◌, ◌≤◌, ◌⊎◌, inl, inr, Bool, true, false, cond, ltb, List, [], ◌∷◌, ◌++◌, map, All, length, get_or, take, drop, replicate, Some, Ok, Err, Result, MatchResult, slice_get, sym, subst, refl, ap, ◌∙◌, arith, length-append}
 use Rattle.std.proofs.lemmas.Bool.{cond-true, cond-false, eqb-true, lt-ltb, le-ltb}
 use Rattle.std.proofs.lemmas.List.{length-take-le, length-drop, get_or-append_right, get_or_append_left, get_or-take, get_or-drop}
 use Rattle.std.proofs.lemmas.List.Elements.{All-replicate}
+use Rattle.std.specs.Option.{option_map}
+use Rattle.kinds.specs.Kinds.{Meaning}
 use Rattle.refusals.specs.Numbers.{asked}
 use Rattle.tags.specs.Gauge.{GaugeMeaning}
 use Rattle.tags.specs.Making.{pump_made, gauge_made}
 use Rattle.tags.specs.Pages.{put_page}
 use Rattle.tags.specs.Pump.{PumpMeaning}
+use Rattle.tray_core.specs.Trays.{present}
 use Rattle.sheet.specs.Drafts.{Draft, blank_pump, blank_gauge, remade, repaged, in_front, behind, changed_at, row_paged, back_paged}
-use Rattle.sheet.specs.Sheets.{Stage, Naming, Came, Went, Stopped, with_front, with_back, paged}
+use Rattle.sheet.specs.Sheets.{Stage, Naming, Came, Went, Stopped, with_front, with_back, tags_of, paged}
 use Rattle.sheet.specs.TagLines.{PageWritten, Replaced, PageLine, TagLines}
 use Rattle.sheet.proofs.Loading.{stage_made}
 
@@ -127,6 +130,14 @@ behind_from_32 n page bytes front back =
     cond-false (ltb (32 + n) 32) _ _ (le-ltb (32 + n) 32 (omega arith))
     ∙ ap (λ (k : ℕ). with_back front (back_paged k page bytes back)) (omega arith)
 
+-- the tray of drafts, place by place
+module _ {S H : Type 0} where
+  row_loaded : (drafts : List (Draft (Meaning S H))) (n : ℕ)
+      → slice_get (map present (tags_of drafts)) n ≡ option_map (λ d. record { here = true; tag = d.tag }) (slice_get drafts n)
+  row_loaded [] n = refl
+  row_loaded (d ∷ drafts) zero = refl
+  row_loaded (d ∷ drafts) (suc n) = row_loaded drafts n
+
 pub tag_lines : TagLines
 tag_lines =
     record {
@@ -143,4 +154,7 @@ tag_lines =
       late_tag = λ kind draw tray. refl;
       late_page = λ tag page bytes tray. refl;
       all_made = λ lines front back leads. stage_made lines front back leads;
+      dark = λ front back. refl;
+      front_loaded = λ front back n. row_loaded front n;
+      back_loaded = λ front back n. row_loaded back n;
     }

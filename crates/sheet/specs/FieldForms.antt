@@ -6,8 +6,8 @@ use Rattle.parts.specs.Parts.{joined, Lacks}
 use Rattle.fields.specs.declared.FieldFault.TheVariants as form
 use Rattle.sheet.specs.declared.faults.LineFault.{LineFault}
 use Rattle.sheet.specs.declared.faults.LineFault.TheVariants as fault
-use Rattle.sheet.specs.declared.lines.Line.{Line}
 use Rattle.sheet.specs.CallWords.{draw_text}
+use Rattle.sheet.specs.Lines.{Says}
 
 -- A field that is not the decimal text of a number below 1000.
 abbrev pub NoNumber : List ℕ → Type 0
@@ -23,30 +23,30 @@ NoBytes least most text =
 abbrev pub NoDraw : List ℕ → Type 0
 NoDraw text = (draw : ℕ) → draw < 65536 → text ≢ draw_text draw
 
-pub record FieldForms (text : List ℕ) (r : Result Line LineFault) : Type 0 where
+pub record FieldForms (text : List ℕ) (Gives : Result Says LineFault → Type 0) : Type 0 where
   pub place : (tag : List ℕ) → Lacks 44 tag → NoNumber tag
-      → text ≡ joined (codes "place" ∷ tag ∷ []) → r ≡ Err (fault.Field form.Number)
+      → text ≡ joined (codes "place" ∷ tag ∷ []) → Gives (Err (fault.Field form.Number))
   pub lift : (tag : List ℕ) → Lacks 44 tag → NoNumber tag
-      → text ≡ joined (codes "lift" ∷ tag ∷ []) → r ≡ Err (fault.Field form.Number)
+      → text ≡ joined (codes "lift" ∷ tag ∷ []) → Gives (Err (fault.Field form.Number))
   -- A send line has 1 to 14 bytes, a raw line 1 to 16.
   pub send : (body : List ℕ) → Lacks 44 body → NoBytes 1 14 body
-      → text ≡ joined (codes "send" ∷ body ∷ []) → r ≡ Err (fault.Field form.Bytes)
+      → text ≡ joined (codes "send" ∷ body ∷ []) → Gives (Err (fault.Field form.Bytes))
   pub raw : (bytes : List ℕ) → Lacks 44 bytes → NoBytes 1 16 bytes
-      → text ≡ joined (codes "raw" ∷ bytes ∷ []) → r ≡ Err (fault.Field form.Bytes)
+      → text ≡ joined (codes "raw" ∷ bytes ∷ []) → Gives (Err (fault.Field form.Bytes))
   -- A tag line: its kind, and then its draw number.
   pub kind : (kind draw : List ℕ) → Lacks 44 kind → Lacks 44 draw → kind ≢ codes "pump"
       → kind ≢ codes "gauge" → text ≡ joined (codes "tag" ∷ kind ∷ draw ∷ [])
-      → r ≡ Err (fault.Field form.Kind)
+      → Gives (Err (fault.Field form.Kind))
   pub draw : (kind draw : List ℕ) → (kind ≡ codes "pump") ⊎ (kind ≡ codes "gauge")
       → Lacks 44 draw → NoDraw draw → text ≡ joined (codes "tag" ∷ kind ∷ draw ∷ [])
-      → r ≡ Err (fault.Field form.Draw)
+      → Gives (Err (fault.Field form.Draw))
   -- A page line: its tag, then its page, and then its eight bytes.
   pub page_tag : (tag page bytes : List ℕ) → Lacks 44 tag → Lacks 44 page → Lacks 44 bytes
       → NoNumber tag → text ≡ joined (codes "page" ∷ tag ∷ page ∷ bytes ∷ [])
-      → r ≡ Err (fault.Field form.Number)
+      → Gives (Err (fault.Field form.Number))
   pub page_page : (tag : ℕ) (page bytes : List ℕ) → tag < 1000 → Lacks 44 page → Lacks 44 bytes
       → NoNumber page → text ≡ joined (codes "page" ∷ decimal tag ∷ page ∷ bytes ∷ [])
-      → r ≡ Err (fault.Field form.Number)
+      → Gives (Err (fault.Field form.Number))
   pub page_bytes : (tag page : ℕ) (bytes : List ℕ) → tag < 1000 → page < 1000 → Lacks 44 bytes
       → NoBytes 8 8 bytes → text ≡ joined (codes "page" ∷ decimal tag ∷ decimal page ∷ bytes ∷ [])
-      → r ≡ Err (fault.Field form.Bytes)
+      → Gives (Err (fault.Field form.Bytes))

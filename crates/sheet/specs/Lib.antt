@@ -3,6 +3,7 @@ pub mod Lines
 pub mod CallWords
 pub mod FieldForms
 pub mod Printing
+pub mod Printed
 pub mod Drafts
 pub mod Sheets
 pub mod Views

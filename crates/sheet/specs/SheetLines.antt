@@ -39,7 +39,7 @@ pub record Begins (lines : List (List ℕ)) (rest text : List ℕ) (stage : Stag
   pub fits : length (lined lines ++ rest) ≤ 65536
   pub done : Done 1 (Naming [] []) lines text stage
 
--- Every sheet is of one of these five forms.
+-- Sheets of five forms.
 pub record SheetLines : Type 0 where
   -- Nothing follows: the run prints what the lines print, and is not refused.
   pub whole : (lines : List (List ℕ)) (text : List ℕ) (stage : Stage) → Begins lines [] text stage

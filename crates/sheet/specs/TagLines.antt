@@ -1,5 +1,6 @@
 -- What tag lines and page lines change, byte by byte, and that they change nothing else.
-use Rattle.std.specs.Prelude.{◌≡◌, ◌≢◌, ℕ, ◌+◌, ◌*◌, ◌<◌, ◌≤◌, ◌⊎◌, List, [], ◌∷◌, ◌++◌, All, length, Some, Ok, MatchResult, Result, slice_get, slice_index}
+use Rattle.std.specs.Prelude.{◌≡◌, ◌≢◌, ℕ, ◌+◌, ◌*◌, ◌<◌, ◌≤◌, ◌⊎◌, true, false, List, [], ◌∷◌, ◌++◌, All, length, Some, Ok, MatchResult, Result, slice_get, slice_index}
+use Rattle.std.specs.Option.{option_map}
 use Rattle.tags.specs.Gauge.{GaugeMeaning}
 use Rattle.tags.specs.Making.{pump_made, gauge_made}
 use Rattle.tags.specs.Pump.{PumpMeaning}
@@ -7,7 +8,7 @@ use Rattle.sheet.specs.declared.words.TagKind.{TagKind}
 use Rattle.sheet.specs.declared.words.TagKind.TheVariants.{Pump, Gauge}
 use Rattle.sheet.specs.Drafts.{Draft}
 use Rattle.sheet.specs.Played.{Names, Leads}
-use Rattle.sheet.specs.Sheets.{SheetTray, Stage, Naming, Calling, Came, Went, Stopped, named, paged}
+use Rattle.sheet.specs.Sheets.{SheetTray, Stage, Naming, Calling, Came, Went, Stopped, named, paged, tray_in}
 
 -- The eight bytes of a page stand in an image, and every other byte is as it was.
 pub record PageWritten (page : ℕ) (bytes before after : List ℕ) : Type 0 where
@@ -48,8 +49,8 @@ module _ {M : Type 0} (made : List ℕ → ℕ → Result M ℕ) where
         × Replaced n (record { image = image; draw = d.draw; tag = tag }) row after))
         (λ why. came ≡ Stopped why))
 
--- At every stage before the first call. Pump tags are in front, numbered from 0, and have pages 0 to
--- 31; gauges are behind, numbered from 32, and have pages 0 and 1.
+-- At every stage before the first call. Pump tags are in front, numbered from 0, and have pages 0
+-- to 31; gauges are behind, numbered from 32, and have pages 0 and 1.
 pub record TagLines : Type 0 where
   -- A tag line puts a blank tag at the end of its row, and changes nothing else.
   pub pump : (draw : ℕ) (front : List (Draft PumpMeaning)) (back : List (Draft GaugeMeaning))
@@ -76,3 +77,12 @@ pub record TagLines : Type 0 where
   pub all_made : (lines : List Names) (front : List (Draft PumpMeaning))
       (back : List (Draft GaugeMeaning)) → Leads (Naming [] []) lines (Naming front back)
       → All (IsMade pump_made) front × All (IsMade gauge_made) back
+  -- The first call finds the tags in the order of the sheet, all on the tray, and the field off.
+  pub dark : (front : List (Draft PumpMeaning)) (back : List (Draft GaugeMeaning))
+      → (tray_in (Naming front back)).field ≡ false
+  pub front_loaded : (front : List (Draft PumpMeaning)) (back : List (Draft GaugeMeaning)) (n : ℕ)
+      → slice_get (tray_in (Naming front back)).front n
+      ≡ option_map (λ d. record { here = true; tag = d.tag }) (slice_get front n)
+  pub back_loaded : (front : List (Draft PumpMeaning)) (back : List (Draft GaugeMeaning)) (n : ℕ)
+      → slice_get (tray_in (Naming front back)).back n
+      ≡ option_map (λ d. record { here = true; tag = d.tag }) (slice_get back n)

@@ -1,7 +1,7 @@
 // What a line says, and how it is read.
 ghost use Rattle.std.specs.Prelude.{◌≡◌, ◌≤◌, length};
 ghost use Rattle.parts.specs.Parts.{given};
-ghost use Rattle.sheet.specs.CallWords.{CallWords};
+ghost use Rattle.sheet.specs.CallWords.{CallWords, IsRead, IsSaid};
 ghost use Rattle.sheet.specs.FieldForms.{FieldForms};
 ghost use Rattle.sheet.specs.Lines.{line_says, said_in, word_says};
 ghost use Rattle.typeb.specs.CheckBytes.{sealed};
@@ -69,13 +69,15 @@ fn read_fields(word: Word, fields: [Option<&[u8]>; 4]) -> Result<Line, LineFault
 }
 
 // What a line says: a known word, as many fields as it has, and each field in its form.
-// Which text is which call, tag or page, and which word is none: clause `words`. Which field's fault
-// a line has: clause `forms`.
-#[tactic(auto, using(crate::proofs::CallWords::call_words, crate::proofs::FieldForms::field_forms))]
+// Which text is which call, tag or page, and which word is none: clauses `words` and `said_words`.
+// Which field's fault a line has: clauses `forms` and `said_forms`. The first of each pair is of the
+// value that is returned, the second of what the line says, by which a run does it.
 pub fn read_line(line: &[u8]) -> Result<Line, LineFault>
     ensures result { said_in result ≡ line_says line.now }
-    ensures words { CallWords line.now result }
-    ensures forms { FieldForms line.now result }
+    ensures words { CallWords line.now (IsRead result) }
+    ensures forms { FieldForms line.now (IsRead result) }
+    ensures said_words { CallWords line.now (IsSaid line.now) }
+    ensures said_forms { FieldForms line.now (IsSaid line.now) }
 {
     let (first, behind) = split_fields(line);
     let word = Word::try_from(first)?;

@@ -6,6 +6,7 @@ ghost use Rattle.sheet.specs.SheetLines.{LinesDo, SheetLines};
 ghost use Rattle.sheet.specs.Sheets.{Naming, before, refused_at, lines_run, run_of};
 ghost use Rattle.sheet.specs.Sheets.{printed_of, refusal_of};
 ghost use Rattle.sheet.specs.Played.{SheetPlays};
+ghost use Rattle.sheet.specs.Printed.{Printed};
 ghost use Rattle.sheet.specs.TagLines.{TagLines};
 ghost use Rattle.sheet.specs.Views.{refused_by, refused_in, run_by, RanBy};
 ghost use Rattle.sheet.specs.Worked.{WorkedSheets};
@@ -82,9 +83,10 @@ fn refuse(mut text: String, fault: SheetFault) -> Result<Ran, AllocError>
 // it was. Want of memory is the only error. The text is that of the sheet's calls, put one after
 // another, up to the first refusal, to a loaded tray as the law over every run means it: clause
 // `calls`. Which lines a sheet runs, in which order, and where its run ends: clause `lines`; what
-// each does: clause `each_line`; what tag and page lines change: clause `tags`. Sheets worked out by
-// hand print what was worked out: clause `worked`.
-#[tactic(auto, using(crate::proofs::Playing::sheet_plays, crate::proofs::SheetLines::sheet_lines, crate::proofs::SheetLines::lines_do, crate::proofs::TagLines::tag_lines, crate::proofs::Worked::worked_sheets))]
+// each does: clause `each_line`; what tag and page lines change: clause `tags`; what is printed of an
+// answer and of a refusal: clause `printing`. Sheets worked out by hand print what was worked out:
+// clause `worked`.
+#[tactic(auto, using(crate::proofs::Playing::sheet_plays, crate::proofs::SheetLines::sheet_lines, crate::proofs::SheetLines::lines_do, crate::proofs::TagLines::tag_lines, crate::proofs::Printed::printed, crate::proofs::Worked::worked_sheets))]
 pub fn run_sheet(heap: Global, sheet: &[u8]) -> Result<Ran, AllocError>
     ensures printed { IfOk result (λ ran. string_bytes ran.text ≡ printed_of sheet.now) }
     ensures refused { IfOk result (λ ran. refused_in ran.fault ≡ refusal_of sheet.now) }
@@ -92,6 +94,7 @@ pub fn run_sheet(heap: Global, sheet: &[u8]) -> Result<Ran, AllocError>
     ensures lines { SheetLines }
     ensures each_line { LinesDo }
     ensures tags { TagLines }
+    ensures printing { Printed }
     ensures worked { WorkedSheets }
 {
     let mut text = String::new(heap);

@@ -1,12 +1,14 @@
-use Rattle.std.proofs.Common.{◌≡◌, ℕ, List, [], ◌∷◌, take, Some, None, Ok, Option, sym, refl, ap, ◌∙◌}
+use Rattle.std.proofs.Common.{◌≡◌, ℕ, List, [], ◌∷◌, take, Some, None, Ok, Option, Result, sym, refl, ap, ◌∙◌}
 use Rattle.std.specs.Option.{ok_or}
 use Rattle.parts.specs.Parts.{parted, given}
 use Rattle.sheet.specs.declared.faults.LineFault.{LineFault}
 use Rattle.sheet.specs.declared.words.Word.{Word}
 use Rattle.sheet.specs.declared.words.Word.TheVariants.{Tag, Page, On, Off, Place, Lift, Stock, Send, Raw}
 use Rattle.sheet.specs.Lines.{behind_say, fields_say, word_of}
-use Rattle.sheet.proofs.CallWords.{call_words}
-use Rattle.sheet.proofs.FieldForms.{field_forms}
+use Rattle.sheet.specs.declared.lines.Line.{Line}
+use Rattle.sheet.specs.CallWords.{IsRead}
+use Rattle.sheet.proofs.CallWords.{call_words, by_value, said_words}
+use Rattle.sheet.proofs.FieldForms.{field_forms, said_forms}
 use Rattle.sheet.proofs.lines.read_line.Goals as goal
 
 -- no word has four fields behind it
@@ -45,7 +47,19 @@ returns-clause-result c =
     ∙ first_say (parted 44 c.args.line.now)
 
 pub returns-clause-words : goal.returns-clause-words
-returns-clause-words c = call_words c.args.line.now c.read_fields.result (returns-clause-result c)
+returns-clause-words c =
+    let text : List ℕ = c.args.line.now in
+    let r : Result Line LineFault = c.read_fields.result in
+    call_words text (IsRead r) (by_value text r (returns-clause-result c))
 
 pub returns-clause-forms : goal.returns-clause-forms
-returns-clause-forms c = field_forms c.args.line.now c.read_fields.result (returns-clause-result c)
+returns-clause-forms c =
+    let text : List ℕ = c.args.line.now in
+    let r : Result Line LineFault = c.read_fields.result in
+    field_forms text (IsRead r) (by_value text r (returns-clause-result c))
+
+pub returns-clause-said_words : goal.returns-clause-said_words
+returns-clause-said_words c = said_words c.args.line.now
+
+pub returns-clause-said_forms : goal.returns-clause-said_forms
+returns-clause-said_forms c = said_forms c.args.line.now
