@@ -77,8 +77,8 @@ pub record PagesStand (m : PumpMeaning) : Type 0 where
       → lock_bit page (page_of 0 m) ≡ bit_at (locks_in (memory_of m)) page
   pub counter : counter_in (page_of 2 m) ≡ counter_of m
 
--- READ gives the eight bytes of a page: of pages 0 to 2 always, of page 3 never, of the others while
--- the tag is open. It changes nothing.
+-- READ gives the eight bytes of a page: of pages 0 to 2 always, of page 3 never, of the others
+-- while the tag is open. It changes nothing.
 pub record Reads (page : ℕ) (m : PumpMeaning) (r : PumpReaction) : Type 0 where
   pub shown : page < 3 → r.says ≡ Some (Page (page_in page m))
   pub opened : 3 < page → m.opened ≡ true → r.says ≡ Some (Page (page_in page m))

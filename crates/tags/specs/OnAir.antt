@@ -9,17 +9,18 @@ use Rattle.kinds.specs.Reacts.{Reaction}
 use Rattle.tags.specs.Common.{Shown, reacts_by, acts_by}
 
 -- What is said to a data command, in the bytes of the frame that brought it. Its first byte, of
--- command and card number, is repeated. Behind it stand 00 where the command is done, the code where
--- it is refused, and else the page, which is the second byte less whole multiples of 32, and the
--- bytes that were read.
+-- command and card number, is repeated. Behind it stand 00 where the command is done, the code
+-- where it is refused, and else the page, which is the second byte less whole multiples of 32, and
+-- the bytes that were read.
 pub record CommandBytes (f : List ℕ) (frame : Heard) : Type 0 where
   pub acknowledged : reply_bytes frame (Some Acknowledged) ≡ sealed (take 1 f ++ (0x00 ∷ []))
-  pub refused : (code : ℕ) → reply_bytes frame (Some (Refused code)) ≡ sealed (take 1 f ++ (code ∷ []))
+  pub refused : (code : ℕ)
+      → reply_bytes frame (Some (Refused code)) ≡ sealed (take 1 f ++ (code ∷ []))
   pub page : (turns page : ℕ) (read : List ℕ) → slice_index f 1 ≡ 32 * turns + page → page < 32
       → reply_bytes frame (Some (Page read)) ≡ sealed (take 1 f ++ (page ∷ read))
 
--- What is said, in bytes: ATQB begins with 50, the answer to ATTRIB is the card number, that to HLTB
--- is 00.
+-- What is said, in bytes: ATQB begins with 50, the answer to ATTRIB is the card number, that to
+-- HLTB is 00.
 pub record SaidBytes (f : List ℕ) (frame : Heard) : Type 0 where
   pub nothing : reply_bytes frame None ≡ []
   pub atqb : (serial application protocol : List ℕ)
@@ -31,10 +32,10 @@ pub record SaidBytes (f : List ℕ) (frame : Heard) : Type 0 where
   pub command : (op : Op) (cid address : ℕ) (bytes : List ℕ) → frame ≡ Command op cid address bytes
       → CommandBytes f frame
 
--- What a tag does with the bytes of a frame it does with what is heard in them, and what it says goes
--- out in these bytes. A frame in which nothing is heard meets silence and changes nothing.
-pub record OnAir {H : Type 0} (obeys : Op → ℕ → List ℕ → Meaning Shown H → Reaction (Meaning Shown H))
-    : Type 0 where
+-- What a tag does with the bytes of a frame it does with what is heard in them, and what it says
+-- goes out in these bytes. A frame in which nothing is heard meets silence and changes nothing.
+pub record OnAir {H : Type 0}
+    (obeys : Op → ℕ → List ℕ → Meaning Shown H → Reaction (Meaning Shown H)) : Type 0 where
   pub told : (f : List ℕ) (frame : Heard) (m : Meaning Shown H) → heard f ≡ Some frame
       → (acts_by obeys).hears f m
       ≡ record {
