@@ -10,12 +10,13 @@ use Rattle.kinds.specs.Says.{Page, Acknowledged, Refused}
 use Rattle.tags.specs.declared.rights.Reading.{Reading}
 use Rattle.tags.specs.declared.rights.Reading.TheVariants.{Always, WhenOpen, Never}
 use Rattle.tags.specs.Common.{with_opened}
-use Rattle.tags.specs.DataLaws.{memory_of, eight_from, IsBytes, IsWhole, IsPage, ChangesOnly, locks_in, locks_page, counter_of, IsRefused, Reads, Writes, Locks, Counts, Checks, PagesLie, DataObeyed}
+use Rattle.tags.specs.DataLaws.{memory_of, eight_from, IsBytes, IsWhole, IsPage, ChangesOnly, locks_in, locks_page, counter_of, IsRefused, Reads, Writes, Locks, Counts, Checks, PagesStand, DataObeyed}
 use Rattle.tags.specs.Pages.{unlocked, locked_by, counter_in, counted_by}
 use Rattle.tags.specs.Pump.{PumpMeaning, asks, page_of, with_page, passes, pump_reads, pump_writes, pump_locks, pump_checks, pump_counts}
 use Rattle.tags.specs.Rules.{reading_of, writing_of, ever_read, read_now, by_write}
 use Rattle.tags.proofs.Asked.{asked_on, asked_off}
 use Rattle.tags.proofs.Bytes.{eight_whole, byte_whole, page_bytes, byte_put, after_whole, changes_only, locks_whole, counter_whole}
+use Rattle.tags.proofs.CountRight.{counts_page, spares_page}
 use Rattle.tags.proofs.LockBits.{lock_bit_is, unlocked_is, locks_after, locked_bytes}
 use Rattle.tags.proofs.Locks.{locked_long, counted_long, counted_one}
 use Rattle.tags.proofs.Replaced.{page_long, replaced_here}
@@ -212,6 +213,13 @@ module _ (bytes : List ℕ) (m : PumpMeaning) (given : IsPage bytes) (whole : Is
             to_third o free ∙ asked_on (ltb (counter_in (page_of 2 m)) 0x8000) 0x21 m last (lt-ltb _ _ low) in
             let page : IsPage new = record { long = counted_long bytes (page_of 2 m) given.long; each = counted_bytes low } in
             let left = after_whole m whole 2 (lit< tt) new page in
+            let rest : ChangesOnly 16 24 m (pump_counts bytes m).after = subst (λ (r : Reaction PumpMeaning). ChangesOnly 16 24 m r.after) (sym is) (changes_only m whole 2 (lit< tt) new page) in
+            let risen : counter_of (pump_counts bytes m).after ≡ counter_of m + 1 =
+            ap (λ (r : Reaction PumpMeaning). counter_of r.after) is
+            ∙ sym (counter_whole (with_page 2 new m) left.sized)
+            ∙ ap counter_in (replaced_here m whole.sized 2 (lit< tt) new page.long)
+            ∙ counted_one bytes (page_of 2 m) given.long
+            ∙ ap (λ (n : ℕ). n + 1) count in
             record {
               says = ap (λ (r : Reaction PumpMeaning). r.says) is;
               signature = λ j under.
@@ -219,13 +227,10 @@ module _ (bytes : List ℕ) (m : PumpMeaning) (given : IsPage bytes) (whole : Is
                   ∙ byte_put m whole 2 (lit< tt) new page j (omega arith)
                   ∙ get_or_append_left (take 6 bytes) _ 0 j (omega (arith, lead))
                   ∙ get_or-take 6 bytes j 0 under;
-              counter =
-                  ap (λ (r : Reaction PumpMeaning). counter_of r.after) is
-                  ∙ sym (counter_whole (with_page 2 new m) left.sized)
-                  ∙ ap counter_in (replaced_here m whole.sized 2 (lit< tt) new page.long)
-                  ∙ counted_one bytes (page_of 2 m) given.long
-                  ∙ ap (λ (n : ℕ). n + 1) count;
-              rest = subst (λ (r : Reaction PumpMeaning). ChangesOnly 16 24 m r.after) (sym is) (changes_only m whole 2 (lit< tt) new page);
+              counter = risen;
+              by_count = λ page under. counts_page m (pump_counts bytes m).after risen page;
+              by_no_count = spares_page m (pump_counts bytes m).after rest;
+              rest = rest;
             };
         closed = λ c. refused 0x41 m _ (asked_off m.opened 0x41 m second c);
         locked = λ o set.
@@ -258,8 +263,8 @@ check_lem bytes m whole =
       hidden = cond_both (passes bytes m) done not_done (λ (r : Reaction PumpMeaning). r.after.hidden ≡ m.hidden) (λ _. refl) (λ _. refl);
     }
 
-pub pages_lie : (m : PumpMeaning) → IsWhole m → PagesLie m
-pages_lie m whole =
+pub pages_stand : (m : PumpMeaning) → IsWhole m → PagesStand m
+pages_stand m whole =
     record {
       pages = eight_whole m whole.sized;
       locks = λ page below.

@@ -16,7 +16,7 @@ use Rattle.kinds.specs.Reacts.{Reaction, answered, unmoved, replies, says_at}
 use Rattle.tags.specs.Rules.{reading_of, writing_of, ever_read, read_now, by_write}
 use Rattle.kinds.specs.Says.{Page, Acknowledged, Refused}
 use Rattle.tags.proofs.Asked.{after_read, after_write, after_lock, after_count, asked_yes, asked_on}
-use Rattle.tags.proofs.Commands.{data_obeyed, pages_lie, read_open}
+use Rattle.tags.proofs.Commands.{data_obeyed, pages_stand, read_open}
 use Rattle.tags.proofs.Makings.{pump_making}
 use Rattle.tags.proofs.Replaced.{replaced_here}
 use Rattle.tags.proofs.Staying.{keeps_power}
@@ -192,7 +192,7 @@ conduct =
       goes_by = pump_goes_by;
       link_stays = link_stays;
       frames = keeps_power;
-      pages_lie = pages_lie;
+      pages_stand = pages_stand;
       data_obeyed = data_obeyed;
       reads_back = reads_back;
       password_counts = password_counts;

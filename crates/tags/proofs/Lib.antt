@@ -8,10 +8,12 @@ pub mod Moves
 pub mod Asked
 pub mod Staying
 pub mod LinkStates
+pub mod Aired
 pub mod LinkLawful
 pub mod GoingBy
 pub mod Bytes
 pub mod LockBits
+pub mod CountRight
 pub mod Commands
 pub mod Makings
 pub mod Conducts

@@ -19,6 +19,7 @@ use Rattle.tags.specs.Common.{Shown, by_link, reacts_by, acts_by}
 use Rattle.tags.specs.Links.{LinkHears, drawn, hears_marker, requested, moved, dismissed, listens, powered, is_declared, is_active, answers_to}
 use Rattle.tags.specs.Links as links
 use Rattle.tags.specs.Pages.{serial_in, application_in}
+use Rattle.tags.proofs.Aired.{said_bytes}
 use Rattle.tags.proofs.LinkStates.{listens_is, declared_is, active_is, other_waits, not_its_slot, dismissed_idle, stays_on}
 use Rattle.tags.specs.LinkLaws.{LinkLaws, Deafness, Requests, Markers, Selection, Power, DrawsSlot, Draws, OwnBytes, atqb_of, passes_by, not_declared, in_state, selected, silently, drawn_to}
 
@@ -252,6 +253,7 @@ module _ {H : Type 0} (obeys : Op → ℕ → List ℕ → Meaning Shown H → R
         on_air =
             record {
               told = λ f frame m e. ap (answered (reacts_by obeys) m) e;
+              said = said_bytes;
               unheard = λ f m e. ap (answered (reacts_by obeys) m) e;
             };
         deafness = deafness;

@@ -15,7 +15,7 @@ use Rattle.kinds.specs.Reacts.{Reaction, says_to}
 use Rattle.kinds.specs.Says.{Says, Answer, Card, Page, Acknowledged, Refused}
 use Rattle.tags.specs.LinkLaws.{LinkLaws}
 use Rattle.tags.specs.GoesBy.{GoesBy}
-use Rattle.tags.specs.DataLaws.{IsWhole, PagesLie, DataObeyed}
+use Rattle.tags.specs.DataLaws.{IsWhole, PagesStand, DataObeyed}
 use Rattle.tags.specs.MakingLaws.{PumpMaking}
 
 -- A tag that hears frames one after another: what it is then, and all that it answered.
@@ -167,7 +167,7 @@ pub record Conduct : Type 0 where
   pub goes_by : GoesBy pump_obeys
   pub link_stays : LinkStays pump_obeys
   pub frames : FramesKeepPower
-  pub pages_lie : (m : PumpMeaning) → IsWhole m → PagesLie m
+  pub pages_stand : (m : PumpMeaning) → IsWhole m → PagesStand m
   pub data_obeyed : DataObeyed
   pub reads_back : ReadsBack
   pub password_counts : PasswordCounts

@@ -1,5 +1,5 @@
--- What each data command does to a pump tag, over every memory and all data bytes: laws byte by byte
--- and bit by bit, which speak of the 256 bytes of the memory.
+-- What each data command does to a pump tag, over every memory and all data bytes: laws byte by
+-- byte and bit by bit, which speak of the 256 bytes of the memory.
 use Rattle.std.specs.Prelude.{◌≡◌, ◌≢◌, ◌⊎◌, ℕ, ◌+◌, ◌*◌, ◌<◌, ◌≤◌, ◌^◌, Bool, true, false, not, ◌&&◌, ◌||◌, ◌==◌, List, ◌++◌, length, map, replicate, Some, slice_index}
 use Rattle.std.specs.Int.{bit_at}
 use Rattle.std.specs.List.{range_with_len}
@@ -7,9 +7,11 @@ use Rattle.typeb.specs.declared.frames.Op.TheVariants.{Read, Write, Lock, CheckP
 use Rattle.kinds.specs.Kinds.{Meaning}
 use Rattle.kinds.specs.Reacts.{Reaction}
 use Rattle.kinds.specs.Says.{Page, Acknowledged, Refused}
+use Rattle.tags.specs.declared.rights.Writing.TheVariants.{ByCount}
 use Rattle.tags.specs.Common.{Shown}
 use Rattle.tags.specs.Pump.{PumpMeaning, PumpSized, pump_obeys, page_of}
 use Rattle.tags.specs.Pages.{lock_bit, counter_in}
+use Rattle.tags.specs.Rules.{writing_of}
 
 -- The memory of a pump tag, in order: page p is bytes 8 p to 8 p + 7.
 abbrev pub memory_of : PumpMeaning → List ℕ
@@ -32,8 +34,8 @@ pub record IsPage (bytes : List ℕ) : Type 0 where
   pub long : length bytes ≡ 8
   pub each : IsBytes bytes
 
--- Bytes 4 to 7, of a memory as of data, are a number of 32 bits, low byte first: bit i of it is the lock
--- of page i.
+-- Bytes 4 to 7, of a memory as of data, are a number of 32 bits, low byte first: bit i of it is the
+-- lock of page i.
 abbrev pub locks_in : List ℕ → ℕ
 locks_in list =
     slice_index list 4 + 2 ^ 8 * slice_index list 5
@@ -69,14 +71,14 @@ abbrev pub page_in : ℕ → PumpMeaning → List ℕ
 page_in page m = eight_from (8 * page) (memory_of m)
 
 -- The pages, lock bits and counter of which the laws over runs speak are these bytes and bits.
-pub record PagesLie (m : PumpMeaning) : Type 0 where
+pub record PagesStand (m : PumpMeaning) : Type 0 where
   pub pages : (page : ℕ) → page < 32 → page_of page m ≡ page_in page m
   pub locks : (page : ℕ) → page < 32
       → lock_bit page (page_of 0 m) ≡ bit_at (locks_in (memory_of m)) page
   pub counter : counter_in (page_of 2 m) ≡ counter_of m
 
--- READ gives the eight bytes of a page: of pages 0 to 2 always, of page 3 never, of the others while the
--- tag is open. It changes nothing.
+-- READ gives the eight bytes of a page: of pages 0 to 2 always, of page 3 never, of the others
+-- while the tag is open. It changes nothing.
 pub record Reads (page : ℕ) (m : PumpMeaning) (r : PumpReaction) : Type 0 where
   pub shown : page < 3 → r.says ≡ Some (Page (page_in page m))
   pub opened : 3 < page → m.opened ≡ true → r.says ≡ Some (Page (page_in page m))
@@ -111,11 +113,16 @@ pub record Locks (bytes : List ℕ) (m : PumpMeaning) (r : PumpReaction) : Type 
   pub done : m.opened ≡ true → Locked bytes m r
   pub closed : m.opened ≡ false → IsRefused 0x41 m r
 
--- An acknowledged COUNT: page 2 is the first six data bytes, and the counter has risen by one.
+-- An acknowledged COUNT: page 2 is the first six data bytes, and the counter has risen by one. It
+-- has changed the page whose right of writing is COUNT's, and no page of any other right.
 pub record Counted (bytes : List ℕ) (m : PumpMeaning) (r : PumpReaction) : Type 0 where
   pub says : r.says ≡ Some Acknowledged
   pub signature : (j : ℕ) → j < 6 → slice_index (memory_of r.after) (16 + j) ≡ slice_index bytes j
   pub counter : counter_of r.after ≡ counter_of m + 1
+  pub by_count : (page : ℕ) → page < 32 → writing_of page ≡ ByCount
+      → (page_in page r.after ≢ page_in page m)
+  pub by_no_count : (page : ℕ) → page < 32 → (writing_of page ≢ ByCount)
+      → page_in page r.after ≡ page_in page m
   pub rest : ChangesOnly 16 24 m r.after
 
 -- COUNT: open? Page 2 not locked? Counter below its end?
@@ -125,7 +132,8 @@ pub record Counts (bytes : List ℕ) (m : PumpMeaning) (r : PumpReaction) : Type
   pub locked : m.opened ≡ true → is_locked 2 m ≡ true → IsRefused 0x11 m r
   pub ended : m.opened ≡ true → is_locked 2 m ≡ false → 0x8000 ≤ counter_of m → IsRefused 0x21 m r
 
--- CHECK PASSWORD: acknowledged where the data are page 3 and not all ones; else refused. It changes no page.
+-- CHECK PASSWORD: acknowledged where the data are page 3 and not all ones; else refused. It changes
+-- no page.
 pub record Checks (bytes : List ℕ) (m : PumpMeaning) (r : PumpReaction) : Type 0 where
   pub passed : bytes ≡ page_in 3 m → (bytes ≢ replicate 8 0xFF) → r.says ≡ Some Acknowledged
   pub wrong : (bytes ≢ page_in 3 m) → r.says ≡ Some (Refused 0x41)

@@ -11,10 +11,10 @@ use Rattle.tags.specs.Common.{Shown, acts_by}
 
 -- What two frames that are heard agree on.
 pub data Agree : Heard → Heard → Type 0 where
-  -- requests: both of family 0 or 1, with the same slots
+  -- requests, both REQB or both WUPB: of family 0 or 1 each, with the same slots
   SameRequest : (family other : ℕ) (wake_up : Bool) (slots : Slots) → family < 2 → other < 2
       → Agree (Request family wake_up slots) (Request other wake_up slots)
-  -- requests: both of other families, whatever slots they announce
+  -- requests, both REQB or both WUPB: of other families each, whatever slots they announce
   OtherRequest : (family other : ℕ) (wake_up : Bool) (slots more : Slots) → 2 ≤ family → 2 ≤ other
       → Agree (Request family wake_up slots) (Request other wake_up more)
   -- slot markers: the slot

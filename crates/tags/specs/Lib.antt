@@ -8,6 +8,7 @@ pub mod Pump
 pub mod Gauge
 pub mod Making
 pub mod Edges
+pub mod OnAir
 pub mod LinkLaws
 pub mod GoesBy
 pub mod DataLaws

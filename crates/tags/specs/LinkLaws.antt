@@ -1,17 +1,18 @@
 -- The laws of the link: what every kind of tag does with power, and with every frame but the
 -- data commands that it obeys. They stand above the definitions and hold of every tag, in every
 -- state.
-use Rattle.std.specs.Prelude.{◌≡◌, ◌≢◌, ℕ, ◌+◌, ◌*◌, ◌<◌, ◌≤◌, Bool, true, false, not, List, [], ◌∷◌, ◌++◌, length, Some, None, ◌==◌}
+use Rattle.std.specs.Prelude.{◌≡◌, ◌≢◌, ℕ, ◌+◌, ◌*◌, ◌<◌, ◌≤◌, Bool, true, false, not, List, [], ◌∷◌, ◌++◌, length, None, ◌==◌}
 use Rattle.typeb.specs.declared.frames.Op.{Op}
 use Rattle.typeb.specs.declared.frames.Slots.{Slots}
 use Rattle.typeb.specs.declared.frames.Slots.TheVariants.{One}
-use Rattle.typeb.specs.Hears.{Heard, Request, SlotMarker, Attrib, Halt, Command, heard, slot_count}
+use Rattle.typeb.specs.Hears.{Heard, Request, SlotMarker, Attrib, Halt, Command, slot_count}
 use Rattle.tags.specs.declared.link.State.{State}
 use Rattle.tags.specs.declared.link.State.TheVariants.{Off, Idle, Requested, Declared, Halted, Active}
 use Rattle.kinds.specs.Kinds.{Meaning, Behaviour}
-use Rattle.kinds.specs.Says.{Says, Answer, Card, Acknowledged, reply_bytes}
+use Rattle.kinds.specs.Says.{Says, Answer, Card, Acknowledged}
 use Rattle.kinds.specs.Reacts.{Reaction, unmoved, replies}
-use Rattle.tags.specs.Common.{Shown, with_link, reacts_by, acts_by}
+use Rattle.tags.specs.Common.{Shown, reacts_by, acts_by}
+use Rattle.tags.specs.OnAir.{OnAir}
 
 -- The frames that pass a tag by, in each state: requests pass by off and active tags, and REQB
 -- halted ones; a marker concerns only a tag that waits for its slot, ATTRIB and HLTB only a
@@ -62,9 +63,9 @@ pub record OwnBytes (pages : List ℕ) : Type 0 where
 abbrev pub atqb_of : {pages : List ℕ} → OwnBytes pages → Says
 atqb_of own = Answer own.serial own.application (0x00 ∷ 0x00 ∷ 0x41 ∷ [])
 
--- One of n slots is drawn, from 1 to n. It is one more than what the draw number is without its
--- lowest twelve bits, less whole multiples of n. The next draw number is 25173 times the old one
--- and 13849 more, less whole multiples of 65536.
+-- One of n slots is drawn, from 1 to n. It is one more than the draw number divided by 4096, less
+-- whole multiples of n. The next draw number is 25173 times the old one and 13849 more, less whole
+-- multiples of 65536.
 pub record Draws (n draw slot next : ℕ) : Type 0 where
   pub top : ℕ
   pub low : ℕ
@@ -79,18 +80,29 @@ pub record Draws (n draw slot next : ℕ) : Type 0 where
   pub follows : next + 65536 * carry ≡ 25173 * draw + 13849
 
 module _ {H : Type 0} where
-  -- A tag in another state, all else as it was; one with another draw number too; an active one
-  -- with another card number.
+  -- A tag with this state, card number and draw number, all else as it was.
+  abbrev pub moved_to : State → ℕ → ℕ → Meaning Shown H → Meaning Shown H
+  moved_to state cid draw m =
+      record {
+        shown =
+            record {
+              link = record { state = state; cid = cid; draw = draw };
+              pages = m.shown.pages;
+            };
+        hidden = m.hidden;
+        opened = m.opened;
+      }
+
+  -- A tag in another state; one with another draw number too; an active one with another card
+  -- number.
   abbrev pub in_state : State → Meaning Shown H → Meaning Shown H
-  in_state state m =
-      with_link (record { state = state; cid = m.shown.link.cid; draw = m.shown.link.draw }) m
+  in_state state m = moved_to state m.shown.link.cid m.shown.link.draw m
 
   abbrev pub drawn_to : State → ℕ → Meaning Shown H → Meaning Shown H
-  drawn_to state draw m =
-      with_link (record { state = state; cid = m.shown.link.cid; draw = draw }) m
+  drawn_to state draw m = moved_to state m.shown.link.cid draw m
 
   abbrev pub selected : ℕ → Meaning Shown H → Meaning Shown H
-  selected cid m = with_link (record { state = Active; cid = cid; draw = m.shown.link.draw }) m
+  selected cid m = moved_to Active cid m.shown.link.draw m
 
   -- No reply.
   abbrev pub silently : Meaning Shown H → Reaction (Meaning Shown H)
@@ -144,14 +156,15 @@ module _ {H : Type 0} where
           ≡ replies (in_state Declared m) (atqb_of own)
       -- More slots: one is drawn.
       pub more_slots : (slots : Slots) (m : Meaning Shown H) → slots ≢ One
-          → DrawsSlot (slot_count slots) m (reacts_by obeys (Request 0 false slots) (in_state Idle m))
+          → DrawsSlot (slot_count slots) m
+          (reacts_by obeys (Request 0 false slots) (in_state Idle m))
       -- Of any other family: silence and no draw. A halted tag stays so, the others become idle.
       pub other_family : (family : ℕ) (wake_up : Bool) (slots : Slots) (m : Meaning Shown H)
           → 2 ≤ family → passes_by (Request family wake_up slots) m.shown.link.state ≡ false
           → m.shown.link.state ≢ Halted
           → reacts_by obeys (Request family wake_up slots) m ≡ silently (in_state Idle m)
-      pub other_family_halted : (family : ℕ) (wake_up : Bool) (slots : Slots) (m : Meaning Shown H)
-          → 2 ≤ family → m.shown.link.state ≡ Halted
+      pub other_family_halted : (family : ℕ) (wake_up : Bool) (slots : Slots)
+          → (m : Meaning Shown H) → 2 ≤ family → m.shown.link.state ≡ Halted
           → reacts_by obeys (Request family wake_up slots) m ≡ unmoved m
 
     -- A marker is answered by a tag that waits for its slot, and changes no other, whatever its
@@ -191,22 +204,9 @@ module _ {H : Type 0} where
       pub other_card : (op : Op) (cid address : ℕ) (bytes : List ℕ) (m : Meaning Shown H)
           → cid ≢ m.shown.link.cid → reacts_by obeys (Command op cid address bytes) m ≡ unmoved m
 
-    -- What a tag does with the bytes of a frame it does with what is heard in them. A frame in which
-    -- nothing is heard meets silence and changes nothing.
-    pub record OnAir : Type 0 where
-      pub told : (f : List ℕ) (frame : Heard) (m : Meaning Shown H) → heard f ≡ Some frame
-          → (acts_by obeys).hears f m
-          ≡ record {
-            after = (reacts_by obeys frame m).after;
-            reply = reply_bytes frame (reacts_by obeys frame m).says;
-            accepted = (reacts_by obeys frame m).accepted;
-          }
-      pub unheard : (f : List ℕ) (m : Meaning Shown H) → heard f ≡ None
-          → (acts_by obeys).hears f m ≡ record { after = m; reply = []; accepted = false }
-
     -- All of these.
     pub record LinkLaws : Type 0 where
-      pub on_air : OnAir
+      pub on_air : OnAir obeys
       pub deafness : Deafness
       pub requests : Requests
       pub markers : Markers
