@@ -167,8 +167,7 @@ module _ {SF HF SB HB : Type 0} (F : Behaviour SF HF) (B : Behaviour SB HB) wher
     pub lists : Lists (all_serials rounds) entries
     pub only_entries : (es : List (List ℕ)) → Lists (all_serials rounds) es → es ≡ entries
     pub listed : o.list ≡ entries ++ drop (length entries) list
-    -- The answer counts the frames that were sent, the rounds, the slots of the last round that clashed,
-    -- and the places that are filled.
+    -- The answer: frames sent, rounds, clashed slots of the last round, places filled.
     pub answers : o.answer
         ≡ Ok
         (answer.Stock (length (sent_from true rounds)) (length rounds) (last_clashes rounds)
