@@ -1,9 +1,10 @@
 // A tag of a link and a body: what tags have in common that differ only in what they hold and in how they obey data commands.
 ghost use Rattle.std.specs.Prelude.{◌≡◌, ℕ, ◌%◌, false, List};
+ghost use Rattle.typeb.specs.Receives.{on_air};
 ghost use Rattle.typeb.specs.Hears.{frame_of};
 ghost use Rattle.typeb.specs.declared.frames.Op.{Op};
-ghost use Rattle.kinds.specs.Kinds.{Duties, Meaning};
-ghost use Rattle.kinds.specs.Reacts.{Reaction, Reacted};
+ghost use Rattle.kinds.specs.Kinds.{Duties, Meaning, Told};
+ghost use Rattle.kinds.specs.Reacts.{Reaction, Reacted, hears_by};
 ghost use Rattle.tags.specs.Common.{Shown, Contents, acts_by, is_off_tag, reacts_by};
 ghost use Rattle.tags.specs.Holding.{tag_of};
 ghost use Rattle.tags.specs.Pages.{serial_in, application_in};
@@ -14,6 +15,12 @@ use kinds::hearing::Response;
 use kinds::kind::{Hearing, Kind};
 use typeb::frames::{Frame, Op, Serial};
 use typeb::received::Received;
+
+// No reply, and no check accepted.
+const SILENT: Hearing = Hearing {
+    len: 0,
+    accepted: false,
+};
 
 #[derive(Clone, Copy)]
 pub struct Linked<B> {
@@ -59,6 +66,18 @@ impl<B: Body> Linked<B> {
             Next::Obey { op, address, bytes } => B::obey(self, op, address, *bytes),
         }
     }
+
+    // Hears a frame, most often one in which there is something to hear: `hear` is done with any other. It stays out of the loop
+    // over the tags, which then does nothing for a frame that no tag hears, and copies none.
+    #[inline(never)]
+    fn answer(&mut self, frame: &Received<'_>, reply: &mut [u8; 16]) -> Hearing
+        ensures { Told (hears_by (reacts_by B.obeys) (on_air frame.now) (tag_of B.holds self.old)) (tag_of B.holds self.new) reply.old reply.new result.len result.accepted }
+    {
+        match frame.told() {
+            Some(told) => self.react(told).reply_to(told, reply),
+            None => SILENT,
+        }
+    }
 }
 
 impl<B: Body> Kind for Linked<B> {
@@ -85,11 +104,8 @@ impl<B: Body> Kind for Linked<B> {
 
     fn hear(&mut self, frame: &Received<'_>, reply: &mut [u8; 16]) -> Hearing {
         match frame.told() {
-            Some(told) => self.react(told).reply_to(told, reply),
-            None => Hearing {
-                len: 0,
-                accepted: false,
-            },
+            Some(_) => self.answer(frame, reply),
+            None => SILENT,
         }
     }
 }
