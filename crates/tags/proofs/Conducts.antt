@@ -2,13 +2,14 @@
 use Rattle.std.proofs.Common.{◌≡◌, ℕ, ◌%◌, Bool, true, false, cond, not, ◌&&◌, ltb, List, [], ◌∷◌, replicate, Some, None, Option, sym, refl, ap, ◌∙◌, lit<}
 use Rattle.std.specs.Str.{bytes_eq}
 use Rattle.std.proofs.Math.Bool.{and-true, and-false}
+use Rattle.std.proofs.lemmas.Bool.{ne_eqb, eq-eqb}
 use Rattle.std.proofs.lemmas.Slice.Eq.{bytes_eq-Decides}
 use Rattle.typeb.specs.declared.frames.Op.{Op}
 use Rattle.typeb.specs.declared.frames.Op.TheVariants.{Read, Write, Lock, CheckPassword, Deselect, Count}
 use Rattle.typeb.specs.CheckBytes.{fold_bit, fold_bits, fold_byte, check_bytes, sound}
 use Rattle.typeb.specs.Hears.{Heard, Request, SlotMarker, Attrib, Halt, Command, heard}
 use Rattle.tags.specs.Common.{reacts_by, with_opened}
-use Rattle.tags.specs.Conduct.{Conduct, Openness, Accepting, LinkStays, ReadsBack, PasswordCounts, Conversation, checking_op, is_check, acknowledges, speaks, checks_now, noted, verdicts_of, last_of}
+use Rattle.tags.specs.Conduct.{Conduct, Openness, Accepting, LinkStays, TakesWrites, ReadsBack, PasswordCounts, Conversation, checking_op, is_check, acknowledges, speaks, checks_now, noted, verdicts_of, last_of}
 use Rattle.tags.specs.Links.{answers_to}
 use Rattle.tags.specs.Pages.{unlocked, locked_by, counter_in, counted_by}
 use Rattle.tags.specs.Pump.{PumpMeaning, pump_acts, pump_obeys, pump_reads, pump_writes, pump_checks, asks, passes, page_of, with_page}
@@ -120,6 +121,19 @@ step_accepts None m = refl
 accepting : Accepting
 accepting frame m = step_accepts (heard frame) m
 
+-- every page but 0 and 2 can be written
+writable_page : (page : ℕ) → (page ≡ 0 → ⊥) → (page ≡ 2 → ⊥) → by_write (writing_of page) ≡ true
+writable_page page not-0 not-2 = simp (ne_eqb page 0 not-0, ne_eqb page 2 not-2) refl
+
+takes_writes : TakesWrites
+takes_writes page bytes m not-0 not-2 now clear =
+    let last : Reaction PumpMeaning = replies (with_page page bytes m) Acknowledged in
+    let inner : Reaction PumpMeaning = asks (unlocked page (page_of 0 m)) 0x11 m last in
+    ap (λ (r : Reaction PumpMeaning). r.says)
+    (asked_on m.opened 0x41 m (asks (by_write (writing_of page)) 0x21 m inner) now
+    ∙ asked_on (by_write (writing_of page)) 0x21 m inner (writable_page page not-0 not-2)
+    ∙ asked_on (unlocked page (page_of 0 m)) 0x11 m last (eq-eqb _ _ clear))
+
 -- an acknowledged WRITE has replaced its page, in an open tag
 module _ (page : ℕ) (bytes : List ℕ) (m : PumpMeaning) (said : (pump_writes page bytes m).says ≡ Some Acknowledged) where
   abbrev third : Reaction PumpMeaning
@@ -194,6 +208,7 @@ conduct =
       frames = keeps_power;
       pages_stand = pages_stand;
       data_obeyed = data_obeyed;
+      takes_writes = takes_writes;
       reads_back = reads_back;
       password_counts = password_counts;
       conversation = conversation;

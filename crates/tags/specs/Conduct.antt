@@ -10,7 +10,8 @@ use Rattle.tags.specs.declared.link.State.TheVariants.{Off, Halted}
 use Rattle.tags.specs.Common.{Shown, is_off_tag, reacts_by}
 use Rattle.tags.specs.Edges.{tag_in}
 use Rattle.kinds.specs.Kinds.{Meaning, Behaviour}
-use Rattle.tags.specs.Pump.{PumpMeaning, PumpSized, pump_acts, pump_obeys, pump_reads, pump_writes, pump_checks}
+use Rattle.tags.specs.Pages.{lock_bit}
+use Rattle.tags.specs.Pump.{PumpMeaning, PumpSized, pump_acts, pump_obeys, pump_reads, pump_writes, pump_checks, page_of}
 use Rattle.kinds.specs.Reacts.{Reaction, says_to}
 use Rattle.kinds.specs.Says.{Says, Answer, Card, Page, Acknowledged, Refused}
 use Rattle.tags.specs.LinkLaws.{LinkLaws}
@@ -98,6 +99,12 @@ LinkStays {H} obeys =
 abbrev pub FramesKeepPower : Type 0
 FramesKeepPower = (frame : List ℕ) (m : PumpMeaning) → is_off_tag (pump_acts.hears frame m).after.shown ≡ is_off_tag m.shown
 
+-- An open tag takes WRITE for every page but 0 and 2, unless the page is locked: of tags and data of any length too.
+abbrev pub TakesWrites : Type 0
+TakesWrites =
+    (page : ℕ) (bytes : List ℕ) (m : PumpMeaning) → (page ≢ 0) → (page ≢ 2) → m.opened ≡ true → lock_bit page (page_of 0 m) ≡ 0
+    → (pump_writes page bytes m).says ≡ Some Acknowledged
+
 -- A page that is written is read back, and a password that is written is the one that opens, unless it is all ones.
 abbrev pub ReadsBack : Type 0
 ReadsBack =
@@ -169,6 +176,7 @@ pub record Conduct : Type 0 where
   pub frames : FramesKeepPower
   pub pages_stand : (m : PumpMeaning) → IsWhole m → PagesStand m
   pub data_obeyed : DataObeyed
+  pub takes_writes : TakesWrites
   pub reads_back : ReadsBack
   pub password_counts : PasswordCounts
   pub conversation : Conversation
