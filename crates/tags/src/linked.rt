@@ -67,8 +67,8 @@ impl<B: Body> Linked<B> {
         }
     }
 
-    // Hears a frame, most often one in which there is something to hear: `hear` is done with any other. It stays out of the loop
-    // over the tags, which then does nothing for a frame that no tag hears, and copies none.
+    // Hears a frame. `hear` hands it only those in which there is something to hear. It stays out of the loop over the tags, so
+    // that for any other frame the loop has nothing to do, and copies no tag.
     #[inline(never)]
     fn answer(&mut self, frame: &Received<'_>, reply: &mut [u8; 16]) -> Hearing
         ensures { Told (hears_by (reacts_by B.obeys) (on_air frame.now) (tag_of B.holds self.old)) (tag_of B.holds self.new) reply.old reply.new result.len result.accepted }
