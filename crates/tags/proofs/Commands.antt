@@ -90,18 +90,28 @@ writable page not-0 not-2 =
     let second : eqb page 2 ≡ false = ne_eqb page 2 not-2 in
     simp (zeroth, second) refl
 
+-- an open tag comes to the question about the lock for each of these pages, and takes WRITE where it is not locked
+write_asked : (page : ℕ) (bytes : List ℕ) (m : PumpMeaning) → m.opened ≡ true → (page ≡ 0 → ⊥) → (page ≡ 2 → ⊥)
+    → pump_writes page bytes m ≡ asks (unlocked page (page_of 0 m)) 0x11 m (replies (with_page page bytes m) Acknowledged)
+write_asked page bytes m o not-0 not-2 =
+    let third : Reaction PumpMeaning = asks (unlocked page (page_of 0 m)) 0x11 m (replies (with_page page bytes m) Acknowledged) in
+    asked_on m.opened 0x41 m (asks (by_write (writing_of page)) 0x21 m third) o
+    ∙ asked_on (by_write (writing_of page)) 0x21 m third (writable page not-0 not-2)
+
+pub write_taken : (page : ℕ) (bytes : List ℕ) (m : PumpMeaning) → m.opened ≡ true → (page ≡ 0 → ⊥) → (page ≡ 2 → ⊥)
+    → unlocked page (page_of 0 m) ≡ true → pump_writes page bytes m ≡ replies (with_page page bytes m) Acknowledged
+write_taken page bytes m o not-0 not-2 free =
+    write_asked page bytes m o not-0 not-2 ∙ asked_on (unlocked page (page_of 0 m)) 0x11 m (replies (with_page page bytes m) Acknowledged) free
+
 write_lem : (page : ℕ) (bytes : List ℕ) (m : PumpMeaning) → page < 32 → IsPage bytes → IsWhole m → Writes page bytes m (pump_writes page bytes m)
 write_lem page bytes m below given whole =
     let last : Reaction PumpMeaning = replies (with_page page bytes m) Acknowledged in
     let third : Reaction PumpMeaning = asks (unlocked page (page_of 0 m)) 0x11 m last in
     let second : Reaction PumpMeaning = asks (by_write (writing_of page)) 0x21 m third in
-    let to_third = λ (o : m.opened ≡ true) (not-0 : page ≡ 0 → ⊥) (not-2 : page ≡ 2 → ⊥).
-    asked_on m.opened 0x41 m second o ∙ asked_on (by_write (writing_of page)) 0x21 m third (writable page not-0 not-2) in
     let seen = lock_seen m whole page below in
     record {
       done = λ o not-0 not-2 free.
-          let is : pump_writes page bytes m ≡ last =
-          to_third o not-0 not-2 ∙ asked_on (unlocked page (page_of 0 m)) 0x11 m last (seen ∙ ap not free) in
+          let is : pump_writes page bytes m ≡ last = write_taken page bytes m o not-0 not-2 (seen ∙ ap not free) in
           record {
             says = ap (λ (r : Reaction PumpMeaning). r.says) is;
             here = λ j under.
@@ -118,7 +128,7 @@ write_lem page bytes m below given whole =
           either in
           refused 0x21 m _ (asked_on m.opened 0x41 m second o ∙ asked_off (by_write (writing_of page)) 0x21 m third unwritten);
       locked = λ o not-0 not-2 set.
-          refused 0x11 m _ (to_third o not-0 not-2 ∙ asked_off (unlocked page (page_of 0 m)) 0x11 m last (seen ∙ ap not set));
+          refused 0x11 m _ (write_asked page bytes m o not-0 not-2 ∙ asked_off (unlocked page (page_of 0 m)) 0x11 m last (seen ∙ ap not set));
     }
 
 -- LOCK

@@ -2,7 +2,7 @@
 use Rattle.std.proofs.Common.{◌≡◌, ℕ, ◌%◌, Bool, true, false, cond, not, ◌&&◌, ltb, List, [], ◌∷◌, replicate, Some, None, Option, sym, refl, ap, ◌∙◌, lit<}
 use Rattle.std.specs.Str.{bytes_eq}
 use Rattle.std.proofs.Math.Bool.{and-true, and-false}
-use Rattle.std.proofs.lemmas.Bool.{ne_eqb, eq-eqb}
+use Rattle.std.proofs.lemmas.Bool.{eq-eqb}
 use Rattle.std.proofs.lemmas.Slice.Eq.{bytes_eq-Decides}
 use Rattle.typeb.specs.declared.frames.Op.{Op}
 use Rattle.typeb.specs.declared.frames.Op.TheVariants.{Read, Write, Lock, CheckPassword, Deselect, Count}
@@ -17,7 +17,7 @@ use Rattle.kinds.specs.Reacts.{Reaction, answered, unmoved, replies, says_at}
 use Rattle.tags.specs.Rules.{reading_of, writing_of, ever_read, read_now, by_write}
 use Rattle.kinds.specs.Says.{Page, Acknowledged, Refused}
 use Rattle.tags.proofs.Asked.{after_read, after_write, after_lock, after_count, asked_yes, asked_on}
-use Rattle.tags.proofs.Commands.{data_obeyed, pages_stand, read_open}
+use Rattle.tags.proofs.Commands.{data_obeyed, pages_stand, read_open, write_taken}
 use Rattle.tags.proofs.Makings.{pump_making}
 use Rattle.tags.proofs.Replaced.{replaced_here}
 use Rattle.tags.proofs.Staying.{keeps_power}
@@ -121,18 +121,8 @@ step_accepts None m = refl
 accepting : Accepting
 accepting frame m = step_accepts (heard frame) m
 
--- every page but 0 and 2 can be written
-writable_page : (page : ℕ) → (page ≡ 0 → ⊥) → (page ≡ 2 → ⊥) → by_write (writing_of page) ≡ true
-writable_page page not-0 not-2 = simp (ne_eqb page 0 not-0, ne_eqb page 2 not-2) refl
-
 takes_writes : TakesWrites
-takes_writes page bytes m not-0 not-2 now clear =
-    let last : Reaction PumpMeaning = replies (with_page page bytes m) Acknowledged in
-    let inner : Reaction PumpMeaning = asks (unlocked page (page_of 0 m)) 0x11 m last in
-    ap (λ (r : Reaction PumpMeaning). r.says)
-    (asked_on m.opened 0x41 m (asks (by_write (writing_of page)) 0x21 m inner) now
-    ∙ asked_on (by_write (writing_of page)) 0x21 m inner (writable_page page not-0 not-2)
-    ∙ asked_on (unlocked page (page_of 0 m)) 0x11 m last (eq-eqb _ _ clear))
+takes_writes page bytes m not-0 not-2 now clear = ap (λ (r : Reaction PumpMeaning). r.says) (write_taken page bytes m now not-0 not-2 (eq-eqb _ _ clear))
 
 -- an acknowledged WRITE has replaced its page, in an open tag
 module _ (page : ℕ) (bytes : List ℕ) (m : PumpMeaning) (said : (pump_writes page bytes m).says ≡ Some Acknowledged) where
